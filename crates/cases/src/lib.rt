@@ -1,0 +1,1 @@
+// No code: document 01's bench cases, computed from the definitions of `share`.

@@ -1,0 +1,20 @@
+-- Sums and tests over a list of anything.
+use mathlib.Core.Bool.{Bool, true, _&&_}
+use mathlib.Core.List.{List, [], _∷_}
+use Prim.Native.Nat.{ℕ, suc, _+_}
+
+module _ {ℓ} {A : Type ℓ} where
+  -- the sum of f over a list
+  abbrev pub sumOf : (A → ℕ) → List A → ℕ
+  sumOf f [] = 0
+  sumOf f (x ∷ xs) = f x + sumOf f xs
+
+  -- every entry of a list passes the test
+  abbrev pub all : (A → Bool) → List A → Bool
+  all f [] = true
+  all f (x ∷ xs) = f x && all f xs
+
+  -- every entry passes the test beside its place, the places counted from i
+  abbrev pub allFrom : (ℕ → A → Bool) → ℕ → List A → Bool
+  allFrom f i [] = true
+  allFrom f i (x ∷ xs) = f i x && allFrom f (suc i) xs

@@ -1,0 +1,47 @@
+-- Document 01, "The numbers of the shop".
+use mathlib.Core.Bool.{cond}
+use mathlib.Core.List.{List, [], _∷_}
+use Prim.Native.Nat.{ℕ}
+use lib.Dec.{eqb}
+use lib.ListN.{getD}
+
+-- "Queue numbers 0 to 63, one row each."
+abbrev pub queues : ℕ
+queues = 64
+
+-- "Weight 1 to 16."
+abbrev pub maxWeight : ℕ
+maxWeight = 16
+
+-- "Request length 1 to 10,000 ticks ..."
+abbrev pub maxLength : ℕ
+maxLength = 10000
+
+-- "... a length of 0 in a call stands for the house default of 20."
+abbrev pub defaultLength : ℕ
+defaultLength = 20
+
+unfoldable pub lengthMeant : ℕ → ℕ
+lengthMeant length = cond (eqb length 0) defaultLength length
+
+-- "Slice limit 1 to 100 ticks, fixed when a table is made."
+abbrev pub maxLimit : ℕ
+maxLimit = 100
+
+-- "Positions are whole numbers, 720,720 to one unit of virtual time."
+abbrev pub unit : ℕ
+unit = 720720
+
+-- "The steps for weights 1 to 16 are a table"
+abbrev pub steps : List ℕ
+steps =
+    720720 ∷ 360360 ∷ 240240 ∷ 180180 ∷ 144144 ∷ 120120 ∷ 102960 ∷ 90090 ∷ 80080 ∷ 72072 ∷ 65520 ∷ 60060 ∷ 55440 ∷ 51480 ∷ 48048
+    ∷ 45045 ∷ []
+
+-- One tick moves a queue of this weight by its step; a weight outside the table has none.
+unfoldable pub stepOf : ℕ → ℕ
+stepOf weight = getD (0 ∷ steps) weight 0
+
+-- "The ceiling P for positions is 281,474,976,710,656 (2 to the 48th)."
+abbrev pub ceiling : ℕ
+ceiling = 281474976710656

@@ -1,0 +1,17 @@
+-- `outside` is the definition's two tests, the first of which may decide alone.
+use mathlib.Core.Path.{_≡_}
+use borrow.Author.Tests.{lt-ltb, le-ltb}
+use Rattle.share.specs.Refusals as checks
+use Rattle.share.proofs.outside.Statement.{statement}
+use Rattle.share.proofs.outside.Tie as tie
+
+returns : tie.Need-returns
+unfolding checks.outside
+returns c = simp (lt-ltb _ _ (c .if1 .taken))
+
+returns-2 : tie.Need-returns-2
+unfolding checks.outside
+returns-2 c = simp (le-ltb _ _ (c .if1 .left))
+
+pub outside-spec : {M : Type 1} → statement M
+outside-spec = tie.close (tie.spec returns returns-2)
