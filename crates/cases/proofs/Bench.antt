@@ -2,7 +2,7 @@
 use mathlib.Core.Path.{_≡_, refl}
 use mathlib.Core.Bool.{true}
 use Rattle.laws.specs.Difference.{_⊖_}
-use Rattle.laws.specs.Lists.{all}
+use Rattle.laws.specs.Lists.{every, all}
 use Rattle.rows.specs.Numbers.{lengthMeant, stepOf}
 use Rattle.rows.specs.Row.{positionOf, deadlineOf, chargedTo, weightIn, momentIn}
 use Rattle.share.specs.Table.{row, trueTotal, trueSum, reached, isEmpty, placed, withSlice}
@@ -18,5 +18,5 @@ use Rattle.cases.specs.Facts.{holds, lineHolds, caseHolds}
 use Rattle.cases.specs.Bench.{loneAt, bench}
 
 pub bench-holds : all caseHolds bench ≡ true
-unfolding _⊖_ lengthMeant stepOf positionOf deadlineOf chargedTo weightIn momentIn row trueTotal trueSum reached isEmpty placed withSlice inRange orderlyRequest orderlyRow sliceFor orderlyHolder orderly ready calm sound lagOf lagUnit lagsInto freed released eligible deadline precedes choice emptyTable entry opened entering joined leaving left reweighted lengthSet chosen sliceGiven granted charged returned unsound queueOutside outside lengthOutside notHolder rowTaken notAsking lagBelow ceilingPassed freshChecks joinChecks leaveChecks reweightChecks lengthChecks grantChecks returnChecks call joinReply leaveReply reweightReply lengthReply grantReply returnReply step holds lineHolds caseHolds loneAt
+unfolding every _⊖_ lengthMeant stepOf positionOf deadlineOf chargedTo weightIn momentIn row trueTotal trueSum reached isEmpty placed withSlice inRange orderlyRequest orderlyRow sliceFor orderlyHolder orderly ready calm sound lagOf lagUnit lagsInto freed released eligible deadline precedes choice emptyTable entry opened entering joined leaving left reweighted lengthSet chosen sliceGiven granted charged returned unsound queueOutside outside lengthOutside notHolder rowTaken notAsking lagBelow ceilingPassed freshChecks joinChecks leaveChecks reweightChecks lengthChecks grantChecks returnChecks call joinReply leaveReply reweightReply lengthReply grantReply returnReply step holds lineHolds caseHolds loneAt
 bench-holds = refl

@@ -9,7 +9,7 @@ use native.Mathlib.Omega.{arith}
 use lib.Dec.{leb}
 use lib.ListN.{length, getD}
 use borrow.Author.Tests.{leb-true, leb-false}
-use Rattle.laws.specs.Lists.{all, allFrom}
+use Rattle.laws.specs.Lists.{every, all, allFrom}
 
 pub clash : {b : Bool} → b ≡ true → b ≡ false → ⊥
 clash p q = true≢false (sym p ∙ q)
@@ -31,6 +31,21 @@ and-right false b e = absurd (clash e refl)
 
 pub and-both : {a b : Bool} → a ≡ true → b ≡ true → a && b ≡ true
 and-both {a} {b} p q = rw (p, q)
+
+-- the tests of a list, each a fact of its own
+abbrev pub Each : List Bool → Type 0
+Each [] = Unit {0}
+Each (b ∷ bs) = (b ≡ true) × Each bs
+
+pub every-each : (bs : List Bool) → every bs ≡ true → Each bs
+unfolding every
+every-each [] e = tt
+every-each (b ∷ bs) e = (and-left b (every bs) e, every-each bs (and-right b (every bs) e))
+
+pub each-every : (bs : List Bool) → Each bs → every bs ≡ true
+unfolding every
+each-every [] h = refl
+each-every (b ∷ bs) h = and-both (h .0) (each-every bs (h .1))
 
 module _ {ℓ} {A : Type ℓ} (f : A → Bool) where
   pub all-at : (xs : List A) → all f xs ≡ true → (d : A) (i : ℕ) → i < length xs → f (getD xs i d) ≡ true

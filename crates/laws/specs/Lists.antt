@@ -3,6 +3,11 @@ use mathlib.Core.Bool.{Bool, true, _&&_}
 use mathlib.Core.List.{List, [], _∷_}
 use Prim.Native.Nat.{ℕ, suc, _+_}
 
+-- all of these tests pass
+unfoldable pub every : List Bool → Bool
+every [] = true
+every (b ∷ bs) = b && every bs
+
 module _ {ℓ} {A : Type ℓ} where
   -- the sum of f over a list
   abbrev pub sumOf : (A → ℕ) → List A → ℕ

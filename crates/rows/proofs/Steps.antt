@@ -43,8 +43,10 @@ step-most w = ⊎-elim (λ low. ⊎-elim (inside low) past (le-or-lt w maxWeight
   where
     inside : 1 ≤ w → w ≤ maxWeight → stepOf w ≤ unit
     inside low high = omega (arith, weight-times-step w low high, mul-le-mul-right (stepOf w) low)
+
     past : maxWeight < w → stepOf w ≤ unit
     past h = omega (arith, step-past w h)
+
     below : w < 1 → stepOf w ≤ unit
     below h = omega (arith, step-below w h)
 

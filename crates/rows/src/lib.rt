@@ -6,15 +6,34 @@ ghost use Rattle.rows.specs.Row.{deadlineOf, chargedTo};
 
 // The limits of the shop, once; the table type names them for its users.
 pub const QUEUES: u64 = 64;
+
 pub const MAX_WEIGHT: u64 = 16;
+
 pub const MAX_LENGTH: u64 = 10_000;
+
 pub const DEFAULT_LENGTH: u64 = 20;
+
 pub const MAX_LIMIT: u64 = 100;
+
 pub const CEILING: u64 = 281_474_976_710_656;
 
 // Position units that one tick moves a queue of weight 1 to 16: 720,720 / weight, exact at every entry.
 pub const STEPS: [u64; 16] = [
-    720720, 360360, 240240, 180180, 144144, 120120, 102960, 90090, 80080, 72072, 65520, 60060, 55440, 51480, 48048,
+    720720,
+    360360,
+    240240,
+    180180,
+    144144,
+    120120,
+    102960,
+    90090,
+    80080,
+    72072,
+    65520,
+    60060,
+    55440,
+    51480,
+    48048,
     45045,
 ];
 

@@ -1,11 +1,12 @@
 -- Document 01, "A sound table". Each notion has two faces: the test that is computed and the record that a person reads. `proofs/Sound.antt`
 -- has a law each way.
 use mathlib.Core.Path.{_≡_}
-use mathlib.Core.Bool.{Bool, true, false, not, _&&_}
+use mathlib.Core.Bool.{Bool, true, false, not}
+use mathlib.Core.List.{[], _∷_}
 use Prim.Native.Nat.{ℕ, _-_, _*_, _≤_, _<_, min}
 use lib.Dec.{leb, ltb, eqb}
 use lib.ListN.{length}
-use Rattle.laws.specs.Lists.{all}
+use Rattle.laws.specs.Lists.{every, all}
 use Rattle.rows.specs.declared.Request.{Request}
 use Rattle.rows.specs.declared.Row.{Row}
 use Rattle.rows.specs.declared.State.{State}
@@ -22,7 +23,7 @@ pub record InRange (weight position : ℕ) : Type 0 where
   pub position-high : position ≤ ceiling
 
 unfoldable pub inRange : ℕ → ℕ → Bool
-inRange weight position = leb 1 weight && leb weight maxWeight && leb position ceiling
+inRange weight position = every (leb 1 weight ∷ leb weight maxWeight ∷ leb position ceiling ∷ [])
 
 -- "served less than length; ... an asking row's [position] being opening + served x step"
 pub record OrderlyRequest (weight position : ℕ) (q : Request) : Type 0 where
@@ -35,8 +36,14 @@ pub record OrderlyRequest (weight position : ℕ) (q : Request) : Type 0 where
 
 unfoldable pub orderlyRequest : ℕ → ℕ → Request → Bool
 orderlyRequest weight position q =
-    leb 1 (q .length) && leb (q .length) maxLength && leb 1 (q .next) && leb (q .next) maxLength && ltb (q .served) (q .length)
-    && eqb position (positionOf weight q)
+    every
+    (leb 1 (q .length)
+    ∷ leb (q .length) maxLength
+    ∷ leb 1 (q .next)
+    ∷ leb (q .next) maxLength
+    ∷ ltb (q .served) (q .length)
+    ∷ eqb position (positionOf weight q)
+    ∷ [])
 
 -- "free rows all zero"
 abbrev pub OrderlyAs : State → ℕ → ℕ → Type 0
@@ -45,9 +52,9 @@ OrderlyAs Going weight position = InRange weight position
 OrderlyAs (Asking q) weight position = InRange weight position × OrderlyRequest weight position q
 
 abbrev pub orderlyAs : State → ℕ → ℕ → Bool
-orderlyAs Free weight position = eqb weight 0 && eqb position 0
+orderlyAs Free weight position = every (eqb weight 0 ∷ eqb position 0 ∷ [])
 orderlyAs Going weight position = inRange weight position
-orderlyAs (Asking q) weight position = inRange weight position && orderlyRequest weight position q
+orderlyAs (Asking q) weight position = every (inRange weight position ∷ orderlyRequest weight position q ∷ [])
 
 abbrev pub OrderlyRow : Row → Type 0
 OrderlyRow r = OrderlyAs (r .state) (r .weight) (r .position)
@@ -66,7 +73,8 @@ pub record OrderlyHolder (t : Table) (weight : ℕ) (q : Request) : Type 0 where
   pub lesser : t .ticks ≡ sliceFor (t .limit) q
 
 unfoldable pub orderlyHolder : Table → ℕ → Request → Bool
-orderlyHolder t weight q = reached t (q .opening) && leb (deadlineOf weight q) ceiling && eqb (t .ticks) (sliceFor (t .limit) q)
+orderlyHolder t weight q =
+    every (reached t (q .opening) ∷ leb (deadlineOf weight q) ceiling ∷ eqb (t .ticks) (sliceFor (t .limit) q) ∷ [])
 
 abbrev pub HeldBy : Table → State → ℕ → Type 0
 HeldBy t Free weight = ⊥
@@ -85,7 +93,7 @@ OrderlySlice t false = (t .holder ≡ 0) × (t .ticks ≡ 0)
 
 abbrev pub orderlySlice : Table → Bool → Bool
 orderlySlice t true = heldBy t (row t (t .holder) .state) (row t (t .holder) .weight)
-orderlySlice t false = eqb (t .holder) 0 && eqb (t .ticks) 0
+orderlySlice t false = every (eqb (t .holder) 0 ∷ eqb (t .ticks) 0 ∷ [])
 
 -- A sound table but for going rows that V has reached: what stands before a release.
 pub record Orderly (t : Table) : Type 0 where
@@ -99,10 +107,15 @@ pub record Orderly (t : Table) : Type 0 where
 
 unfoldable pub orderly : Table → Bool
 orderly t =
-    eqb (length (t .rows)) queues && leb 1 (t .limit) && leb (t .limit) maxLimit && all orderlyRow (t .rows)
-    && eqb (t .total) (trueTotal (t .rows))
-    && eqb (t .sum) (trueSum (t .rows))
-    && orderlySlice t (t .out)
+    every
+    (eqb (length (t .rows)) queues
+    ∷ leb 1 (t .limit)
+    ∷ leb (t .limit) maxLimit
+    ∷ all orderlyRow (t .rows)
+    ∷ eqb (t .total) (trueTotal (t .rows))
+    ∷ eqb (t .sum) (trueSum (t .rows))
+    ∷ orderlySlice t (t .out)
+    ∷ [])
 
 -- a going row whose lag is 0 or more: it is to be released
 pub record Ready (t : Table) (i : ℕ) : Type 0 where
@@ -110,7 +123,7 @@ pub record Ready (t : Table) (i : ℕ) : Type 0 where
   pub level : AtMostV t (row t i .position)
 
 unfoldable pub ready : Table → Row → Bool
-ready t r = isGoing (r .state) && reached t (r .position)
+ready t r = every (isGoing (r .state) ∷ reached t (r .position) ∷ [])
 
 -- "no going row with position x W at most A"
 abbrev pub Calm : Table → Type 0
@@ -124,4 +137,4 @@ pub record Sound (t : Table) : Type 0 where
   pub no-one-ready : Calm t
 
 unfoldable pub sound : Table → Bool
-sound t = orderly t && calm t
+sound t = every (orderly t ∷ calm t ∷ [])

@@ -43,7 +43,8 @@ placed t i r =
       limit = t .limit;
       out = t .out;
       holder = t .holder;
-      ticks = t .ticks }
+      ticks = t .ticks;
+    }
 
 -- the table with a slice out, or with none
 unfoldable pub withSlice : Table → Bool → ℕ → ℕ → Table

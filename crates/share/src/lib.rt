@@ -3,7 +3,6 @@ ghost use mathlib.Core.Path.{_≡_};
 ghost use Rattle.share.specs.Events.{emptyTable};
 ghost use Rattle.share.specs.Calls.{freshReply, accepted, refused};
 ghost use Rattle.share.specs.Refusals as checks;
-
 use rows::Row;
 use rows::State;
 
@@ -50,21 +49,45 @@ pub struct Reply {
 }
 
 pub enum Event {
-    Fresh { limit: u64 },
-    Join { queue: u64, weight: u64, length: u64 },
-    Leave { queue: u64 },
-    Reweight { queue: u64, weight: u64, length: u64 },
-    Length { queue: u64, length: u64 },
+    Fresh {
+        limit: u64,
+    },
+    Join {
+        queue: u64,
+        weight: u64,
+        length: u64,
+    },
+    Leave {
+        queue: u64,
+    },
+    Reweight {
+        queue: u64,
+        weight: u64,
+        length: u64,
+    },
+    Length {
+        queue: u64,
+        length: u64,
+    },
     Grant,
-    Return { queue: u64, used: u64, early: bool },
+    Return {
+        queue: u64,
+        used: u64,
+        early: bool,
+    },
 }
 
 impl Table {
     pub const QUEUES: u64 = rows::QUEUES;
+
     pub const MAX_WEIGHT: u64 = rows::MAX_WEIGHT;
+
     pub const MAX_LENGTH: u64 = rows::MAX_LENGTH;
+
     pub const DEFAULT_LENGTH: u64 = rows::DEFAULT_LENGTH;
+
     pub const MAX_LIMIT: u64 = rows::MAX_LIMIT;
+
     pub const CEILING: u64 = rows::CEILING;
 
     // A table of free rows, whatever the limit: `fresh` is the call that looks at it.

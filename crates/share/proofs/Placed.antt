@@ -1,0 +1,40 @@
+-- Putting one row in another's place: the other rows stay, W and A stay true sums, and placing a free row is what a departure does to V.
+use mathlib.Core.Path.{_≡_, refl, ap, sym, _∙_}
+use mathlib.Core.Logic.{_≢_}
+use mathlib.Core.List.{List}
+use Prim.Native.Nat.{ℕ, _+_, _-_, _*_, _≤_, _<_}
+use native.Mathlib.Omega.{arith}
+use native.Mathlib.Nat.{mul-le-mul-left}
+use lib.ListN.{length, getD, set, length-set}
+use lib.Seq.{getD-set-same, getD-set-other}
+use Rattle.laws.specs.Lists.{sumOf}
+use Rattle.laws.proofs.Sums.{sum-set, sum-at}
+use Rattle.rows.specs.declared.Row.{Row}
+use Rattle.rows.specs.Row.{blank, weightIn, momentIn}
+use Rattle.share.specs.declared.Table.{Table}
+use Rattle.share.specs.Table.{row, trueTotal, trueSum, placed}
+
+-- W and A are what they are said to be
+pub record TrueSums (t : Table) : Type 0 where
+  pub total-true : t .total ≡ trueTotal (t .rows)
+  pub sum-true : t .sum ≡ trueSum (t .rows)
+
+module _ (t : Table) (i : ℕ) (r : Row) where
+  pub placed-length : length (placed t i r .rows) ≡ length (t .rows)
+  unfolding placed
+  placed-length = length-set (t .rows) i r
+
+  pub placed-same : i < length (t .rows) → row (placed t i r) i ≡ r
+  unfolding placed row
+  placed-same h = getD-set-same (t .rows) i r blank h
+
+  pub placed-other : (j : ℕ) → j ≢ i → row (placed t i r) j ≡ row t j
+  unfolding placed row
+  placed-other j h = getD-set-other (t .rows) i j r blank h
+
+  pub placed-true : i < length (t .rows) → TrueSums t → TrueSums (placed t i r)
+  unfolding placed row trueTotal trueSum
+  placed-true h s =
+      record {
+        total-true = omega (arith, s .total-true, sum-set weightIn (t .rows) i r blank h);
+        sum-true = omega (arith, s .sum-true, sum-set momentIn (t .rows) i r blank h) }
