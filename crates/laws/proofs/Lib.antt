@@ -1,2 +1,4 @@
 pub mod Tests
 pub mod Sums
+pub mod First
+pub mod Means

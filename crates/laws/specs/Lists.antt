@@ -1,6 +1,7 @@
 -- Sums and tests over a list of anything.
-use mathlib.Core.Bool.{Bool, true, _&&_}
+use mathlib.Core.Bool.{Bool, true, cond, _&&_}
 use mathlib.Core.List.{List, [], _∷_}
+use mathlib.Core.Option.{Option, none, some}
 use Prim.Native.Nat.{ℕ, suc, _+_}
 
 -- all of these tests pass
@@ -23,3 +24,8 @@ module _ {ℓ} {A : Type ℓ} where
   abbrev pub allFrom : (ℕ → A → Bool) → ℕ → List A → Bool
   allFrom f i [] = true
   allFrom f i (x ∷ xs) = f i x && allFrom f (suc i) xs
+
+  -- the place of the first entry that passes, the places counted from i
+  abbrev pub firstFrom : (A → Bool) → ℕ → List A → Option ℕ
+  firstFrom f i [] = none
+  firstFrom f i (x ∷ xs) = cond (f x) (some i) (firstFrom f (suc i) xs)

@@ -1,11 +1,8 @@
 -- Document 01, "Release": the rule, which has no order in it, and a function that computes where every order ends.
-use mathlib.Core.Path.{_≡_}
-use mathlib.Core.Bool.{cond}
-use mathlib.Core.List.{List, [], _∷_}
 use mathlib.Core.Option.{Option, none, some}
 use Prim.Native.Nat.{ℕ, zero, suc}
 use lib.ListN.{length}
-use Rattle.rows.specs.declared.Row.{Row}
+use Rattle.laws.specs.Lists.{firstFrom}
 use Rattle.rows.specs.Row.{blank}
 use Rattle.share.specs.declared.Table.{Table}
 use Rattle.share.specs.Table.{placed}
@@ -20,15 +17,10 @@ pub data Frees : Table → Table → Type 0 where
   done : {t : Table} → Calm t → Frees t t
   one : {t u : Table} (i : ℕ) → Ready t i → Frees (freed t i) u → Frees t u
 
--- the lowest ready row, counting from i
-abbrev pub firstReady : Table → ℕ → List Row → Option ℕ
-firstReady t i [] = none
-firstReady t i (r ∷ rs) = cond (ready t r) (some i) (firstReady t (suc i) rs)
-
 -- the lowest ready row is freed, again and again, at most so many times
 abbrev pub freeing : ℕ → Table → Table
 freeing zero t = t
-freeing (suc most) t = elim (firstReady t 0 (t .rows)) [ none ↦ t | some i ↦ freeing most (freed t i) ]
+freeing (suc most) t = elim (firstFrom (ready t) 0 (t .rows)) [ none ↦ t | some i ↦ freeing most (freed t i) ]
 
 -- no more rows can be freed than there are
 unfoldable pub released : Table → Table
