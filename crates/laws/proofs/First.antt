@@ -35,5 +35,6 @@ module _ {ℓ} {A : Type ℓ} (f : A → Bool) (d : A) where
     where
       here : (f x ≡ true) × (j ≡ i) → (k : ℕ) × (j ≡ i + k) × Passes f (x ∷ xs) d k
       here h = (zero, omega arith, record { inside = omega arith; passed = h .0 })
+
       later : (k : ℕ) × (j ≡ suc i + k) × Passes f xs d k → (k : ℕ) × (j ≡ i + k) × Passes f (x ∷ xs) d k
       later h = (suc (h .0), omega arith, record { inside = omega (arith, h .2 .inside); passed = h .2 .passed })

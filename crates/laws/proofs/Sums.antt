@@ -22,3 +22,8 @@ module _ {ℓ} {A : Type ℓ} (f : A → ℕ) where
   pub sum-bound : (xs : List A) (d : A) (k : ℕ) → ((i : ℕ) → i < length xs → f (getD xs i d) ≤ k) → sumOf f xs ≤ length xs * k
   sum-bound [] d k h = omega arith
   sum-bound (x ∷ xs) d k h = omega (arith, h zero (omega arith), sum-bound xs d k (λ i l. h (suc i) (omega arith)))
+
+-- where each entry of one sum is at most a multiple of the other's, so is the sum
+pub sum-scaled {ℓ} : {A : Type ℓ} (f g : A → ℕ) (k : ℕ) (xs : List A) (d : A) → ((i : ℕ) → i < length xs → f (getD xs i d) ≤ g (getD xs i d) * k) → sumOf f xs ≤ sumOf g xs * k
+sum-scaled f g k [] d h = omega arith
+sum-scaled f g k (x ∷ xs) d h = omega (arith, h zero (omega arith), sum-scaled f g k xs d (λ i l. h (suc i) (omega arith)))

@@ -71,19 +71,21 @@ module _ (t : Table) (n : ℕ) where
         inside = omega arith;
         asks = asks;
         least = below-next _ n (λ j l e. absurd (clash e (before j l))) (λ e. not-both _ (precedes-irrefl (row t n)));
-        lowest = below-next _ n (λ j l e. absurd (clash e (before j l))) (λ e p. omega arith) }
+        lowest = below-next _ n (λ j l e. absurd (clash e (before j l))) (λ e p. omega arith);
+      }
   takes-over (some b) asks ahead before =
       record {
         inside = omega arith;
         asks = asks;
         least =
-          below-next _ n
-          (λ j l e. not-both _ (λ p. clash (precedes-trans (row t j) (row t n) (row t b) p ahead) (before .least j l e)))
-          (λ e. not-both _ (precedes-irrefl (row t n)));
+            below-next _ n
+            (λ j l e. not-both _ (λ p. clash (precedes-trans (row t j) (row t n) (row t b) p ahead) (before .least j l e)))
+            (λ e. not-both _ (precedes-irrefl (row t n)));
         lowest =
-          below-next _ n
-          (λ j l e p. absurd (clash (precedes-between (row t n) (row t j) (row t b) ahead p) (before .least j l e)))
-          (λ e p. omega arith) }
+            below-next _ n
+            (λ j l e p. absurd (clash (precedes-between (row t n) (row t j) (row t b) ahead p) (before .least j l e)))
+            (λ e p. omega arith);
+      }
 
   -- the row at n does not: it is not eligible, or does not go before the best
   passed-over : (best : Option ℕ) → (eligible t (row t n) && better t (row t n) best) ≡ false → SoFar t n best → SoFar t (suc n) best
@@ -93,7 +95,8 @@ module _ (t : Table) (n : ℕ) where
         inside = omega (arith, before .inside);
         asks = before .asks;
         least = below-next _ n (before .least) (λ e. and-second (eligible t (row t n)) _ e stays);
-        lowest = below-next _ n (before .lowest) (λ e p. omega (arith, before .inside)) }
+        lowest = below-next _ n (before .lowest) (λ e p. omega (arith, before .inside));
+      }
 
   turn : (best : Option ℕ) → SoFar t n best → SoFar t (suc n) (cond (eligible t (row t n) && better t (row t n) best) (some n) best)
   turn best before = by (eligible t (row t n) && better t (row t n) best) refl
@@ -124,7 +127,8 @@ leads-chosen t b h =
     record {
       asks = h .asks;
       least = λ j e. h .least j (eligible-inside t j e) e;
-      lowest = λ j e p. h .lowest j (eligible-inside t j e) e p }
+      lowest = λ j e p. h .lowest j (eligible-inside t j e) e p;
+    }
 
 -- only one row meets the rule: of two, neither goes before the other, so each number is at most the other
 pub chosen-only : (t : Table) (i j : ℕ) → Chosen t i → Chosen t j → i ≡ j

@@ -37,4 +37,5 @@ module _ (t : Table) (i : ℕ) (r : Row) where
   placed-true h s =
       record {
         total-true = omega (arith, s .total-true, sum-set weightIn (t .rows) i r blank h);
-        sum-true = omega (arith, s .sum-true, sum-set momentIn (t .rows) i r blank h) }
+        sum-true = omega (arith, s .sum-true, sum-set momentIn (t .rows) i r blank h);
+      }

@@ -60,8 +60,9 @@ stays-ready t i j ri rj ne =
     record {
       going = rw same (rj .going);
       level =
-        rw (same, freed-total t i, freed-sum t i, ready-weight t i ri, ready-moment t i ri)
-        (still-reached (row t j .position) (row t i .position) (row t i .weight) (t .total) (t .sum) (ri .level) (rj .level)) }
+          rw (same, freed-total t i, freed-sum t i, ready-weight t i ri, ready-moment t i ri)
+          (still-reached (row t j .position) (row t i .position) (row t i .weight) (t .total) (t .sum) (ri .level) (rj .level));
+    }
 
 -- two tables that agree in rows and sums, and in the rest by computation
 same-table : {t u : Table} → t .rows ≡ u .rows → t .total ≡ u .total → t .sum ≡ u .sum → t .limit ≡ u .limit → t .out ≡ u .out → t .holder ≡ u .holder → t .ticks ≡ u .ticks → t ≡ u

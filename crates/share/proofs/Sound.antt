@@ -34,10 +34,13 @@ orderly-request w p q e = let h = every-each _ e in omega (arith, leb-true, ltb-
 request-orderly : {w p : ℕ} {q : Request} → OrderlyRequest w p q → orderlyRequest w p q ≡ true
 unfolding orderlyRequest
 request-orderly h =
-    each-every _
-    (le-leb _ _ (h .length-low)
-    , (le-leb _ _ (h .length-high)
-    , (le-leb _ _ (h .next-low), (le-leb _ _ (h .next-high), (lt-ltb _ _ (h .served-less), (eq-eqb _ _ (h .stands), tt))))))
+    each-every _ (
+      le-leb _ _ (h .length-low),
+      (
+        le-leb _ _ (h .length-high),
+        (le-leb _ _ (h .next-low), (le-leb _ _ (h .next-high), (lt-ltb _ _ (h .served-less), (eq-eqb _ _ (h .stands), tt)))),
+      ),
+    )
 
 orderly-as : (s : State) (w p : ℕ) → orderlyAs s w p ≡ true → OrderlyAs s w p
 orderly-as Free w p e = let h = every-each _ e in (eqb-true _ _ (h .0), eqb-true _ _ (h .1 .0))
@@ -107,17 +110,25 @@ orderly-says t e =
       each = every-row t OrderlyRow (refl, refl) (λ i l. orderly-row _ (all-at orderlyRow (t .rows) (h .1 .1 .1 .0) blank i l));
       total-true = eqb-true _ _ (h .1 .1 .1 .1 .0);
       sum-true = eqb-true _ _ (h .1 .1 .1 .1 .1 .0);
-      slice = orderly-slice t (t .out) (h .1 .1 .1 .1 .1 .1 .0) }
+      slice = orderly-slice t (t .out) (h .1 .1 .1 .1 .1 .1 .0);
+    }
 
 pub says-orderly : (t : Table) → Orderly t → orderly t ≡ true
 unfolding orderly row
 says-orderly t h =
-    each-every _
-    (eq-eqb _ _ (h .one-each)
-    , (le-leb _ _ (h .limit-low)
-    , (le-leb _ _ (h .limit-high)
-    , (at-all orderlyRow (t .rows) blank (λ i l. row-orderly _ (h .each i))
-    , (eq-eqb _ _ (h .total-true), (eq-eqb _ _ (h .sum-true), (slice-orderly t (t .out) (h .slice), tt)))))))
+    each-every _ (
+      eq-eqb _ _ (h .one-each),
+      (
+        le-leb _ _ (h .limit-low),
+        (
+          le-leb _ _ (h .limit-high),
+          (
+            at-all orderlyRow (t .rows) blank (λ i l. row-orderly _ (h .each i)),
+            (eq-eqb _ _ (h .total-true), (eq-eqb _ _ (h .sum-true), (slice-orderly t (t .out) (h .slice), tt))),
+          ),
+        ),
+      ),
+    )
 
 pub ready-says : (t : Table) (i : ℕ) → ready t (row t i) ≡ true → Ready t i
 unfolding ready

@@ -1,0 +1,90 @@
+-- A refusal is given exactly when its sentence says so, and of several the lowest number answers: each list of checks is in the order of the
+-- numbers, so the first that applies is the lowest.
+use mathlib.Core.Path.{_≡_, refl, ap, subst⁻¹}
+use mathlib.Core.Bool.{Bool, true, false, not, cond, _&&_, _||_}
+use mathlib.Core.List.{List, [], _∷_}
+use mathlib.Core.Logic.{_⊎_, ⊎-elim, ⊎-map, _↔_}
+use mathlib.Core.Option.{Option, none, some}
+use Prim.Native.Nat.{ℕ, _≤_, _<_}
+use native.Mathlib.Omega.{arith}
+use lib.Dec.{leb, ltb}
+use borrow.Author.Tests.{leb-true, leb-false, ltb-true, ltb-false, lt-ltb, le-leb, le-ltb}
+use Rattle.laws.proofs.Tests.{clash, every-each}
+use Rattle.laws.specs.Lists.{every}
+use Rattle.rows.specs.Numbers.{queues, maxWeight, maxLength, maxLimit, ceiling}
+use Rattle.share.specs.declared.Refusal.{Refusal}
+use Rattle.share.specs.declared.Table.{Table}
+use Rattle.share.specs.Answers.{refusalNumber}
+use Rattle.share.specs.Table.{row}
+use Rattle.share.specs.Choice.{deadline}
+use Rattle.share.specs.Events.{chosen}
+use Rattle.share.specs.Refusals.{Check, _when_, firstOf, outside, queueOutside, lengthOutside, ceilingPassed}
+
+-- a refusal of the list whose test passes
+pub data Applies (why : Refusal) : List Check → Type 0 where
+  here : {b : Bool} {rest : List Check} → b ≡ true → Applies why ((why when b) ∷ rest)
+  later : {c : Check} {rest : List Check} → Applies why rest → Applies why (c ∷ rest)
+
+first-head : (b : Bool) (this why : Refusal) (rest : Option Refusal) → cond b (some this) rest ≡ some why → ((b ≡ true) × (this ≡ why)) ⊎ ((b ≡ false) × (rest ≡ some why))
+first-head true this why rest e = _⊎_.inl (refl, cc)
+first-head false this why rest e = _⊎_.inr (refl, e)
+
+head-none : (b : Bool) (this : Refusal) (rest : Option Refusal) → cond b (some this) rest ≡ none → (b ≡ false) × (rest ≡ none)
+head-none true this rest e = let z : _≡_ {A = ℕ} 0 1 = cc in absurd (omega arith)
+head-none false this rest e = (refl, e)
+
+-- the number n comes before those of the whole list, which is in the order of its numbers
+abbrev pub ordered : ℕ → List Check → Bool
+ordered n [] = true
+ordered n ((why when b) ∷ rest) = every (ltb n (refusalNumber why) ∷ ordered (refusalNumber why) rest ∷ [])
+
+here-at : {this why : Refusal} (b : Bool) (rest : List Check) → this ≡ why → b ≡ true → Applies why ((this when b) ∷ rest)
+here-at {this} {why} b rest same passed = subst⁻¹ (λ (x : Refusal). Applies why ((x when b) ∷ rest)) same (here passed)
+
+pub first-applies : (checks : List Check) (why : Refusal) → firstOf checks ≡ some why → Applies why checks
+first-applies [] why e = let z : _≡_ {A = ℕ} 0 1 = cc in absurd (omega arith)
+first-applies ((this when b) ∷ rest) why e =
+    ⊎-elim (λ h. here-at b rest (h .1) (h .0)) (λ h. later (first-applies rest why (h .1))) (first-head b this why (firstOf rest) e)
+
+pub none-applies : {checks : List Check} {why : Refusal} → Applies why checks → firstOf checks ≡ none → ⊥
+none-applies {why = why} (here {b = b} {rest = rest} p) e = clash p (head-none b why (firstOf rest) e .0)
+none-applies (later {c = this when b} {rest = rest} h) e = none-applies h (head-none b this (firstOf rest) e .1)
+
+ordered-below : {checks : List Check} {why : Refusal} (n : ℕ) → Applies why checks → ordered n checks ≡ true → n < refusalNumber why
+ordered-below {why = why} n (here p) e = ltb-true n (refusalNumber why) (every-each _ e .0)
+ordered-below n (later {c = this when b} h) e =
+    let facts = every-each _ e in
+    omega (arith, ltb-true n (refusalNumber this) (facts .0), ordered-below (refusalNumber this) h (facts .1 .0))
+
+pub first-lowest : {checks : List Check} {other : Refusal} (n : ℕ) (why : Refusal) → Applies other checks → ordered n checks ≡ true → firstOf checks ≡ some why → refusalNumber why ≤ refusalNumber other
+first-lowest {other = other} n why (here {b = b} {rest = rest} p) o e =
+    ⊎-elim (λ h. omega (arith, ap refusalNumber (h .1))) (λ h. absurd (clash p (h .0))) (first-head b other why (firstOf rest) e)
+first-lowest n why (later {c = this when b} {rest = rest} h) o e =
+    let facts = every-each _ o in
+    ⊎-elim (λ f. omega (arith, ap refusalNumber (f .1), ordered-below (refusalNumber this) h (facts .1 .0)))
+    (λ f. first-lowest (refusalNumber this) why h (facts .1 .0) (f .1))
+    (first-head b this why (firstOf rest) e)
+
+-- the tests, each with its sentence; both ways, so that each is given exactly when it says
+or-says : (a b : Bool) → (a || b ≡ true) ↔ ((a ≡ true) ⊎ (b ≡ true))
+or-says true b = (λ e. _⊎_.inl refl, λ h. refl)
+or-says false b = (λ e. _⊎_.inr e, λ h. ⊎-elim (λ e. absurd (clash e refl)) (λ e. e) h)
+
+pub outside-says : (low high n : ℕ) → (outside low high n ≡ true) ↔ ((n < low) ⊎ (high < n))
+unfolding outside
+outside-says low high n = (
+  λ e. ⊎-map (ltb-true n low) (ltb-true high n) (or-says _ _ .0 e),
+  λ h. or-says (ltb n low) (ltb high n) .1 (⊎-map (lt-ltb n low) (lt-ltb high n) h),
+)
+
+pub queue-outside : (queue : ℕ) → (queueOutside queue ≡ true) ↔ (63 < queue)
+unfolding queueOutside
+queue-outside queue = (leb-true queues queue, le-leb queues queue)
+
+pub length-outside : (length : ℕ) → (lengthOutside length ≡ true) ↔ (10000 < length)
+unfolding lengthOutside
+length-outside length = (ltb-true maxLength length, lt-ltb maxLength length)
+
+pub ceiling-passed : (t : Table) → (ceilingPassed t ≡ true) ↔ (ceiling < deadline (row t (chosen t)))
+unfolding ceilingPassed
+ceiling-passed t = (ltb-true ceiling (deadline (row t (chosen t))), lt-ltb ceiling (deadline (row t (chosen t))))
