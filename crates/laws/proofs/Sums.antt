@@ -23,7 +23,7 @@ module _ {ℓ} {A : Type ℓ} (f : A → ℕ) where
   sum-bound [] d k h = omega arith
   sum-bound (x ∷ xs) d k h = omega (arith, h zero (omega arith), sum-bound xs d k (λ i l. h (suc i) (omega arith)))
 
--- where each entry of one sum is at most a multiple of the other's, so is the sum
-pub sum-scaled {ℓ} : {A : Type ℓ} (f g : A → ℕ) (k : ℕ) (xs : List A) (d : A) → ((i : ℕ) → i < length xs → f (getD xs i d) ≤ g (getD xs i d) * k) → sumOf f xs ≤ sumOf g xs * k
-sum-scaled f g k [] d h = omega arith
-sum-scaled f g k (x ∷ xs) d h = omega (arith, h zero (omega arith), sum-scaled f g k xs d (λ i l. h (suc i) (omega arith)))
+-- where each entry of one sum, times m, is at most that of the other times k, so are the sums
+pub sum-scaled {ℓ} : {A : Type ℓ} (f g : A → ℕ) (m k : ℕ) (xs : List A) (d : A) → ((i : ℕ) → i < length xs → f (getD xs i d) * m ≤ g (getD xs i d) * k) → sumOf f xs * m ≤ sumOf g xs * k
+sum-scaled f g m k [] d h = omega arith
+sum-scaled f g m k (x ∷ xs) d h = omega (arith, h zero (omega arith), sum-scaled f g m k xs d (λ i l. h (suc i) (omega arith)))

@@ -15,7 +15,7 @@ use Rattle.rows.specs.declared.Row.{Row}
 use Rattle.rows.specs.declared.State.{State}
 use Rattle.rows.specs.declared.State.the-variants.{Free, Going, Asking}
 use Rattle.rows.specs.Numbers.{ceiling}
-use Rattle.rows.specs.Row.{blank, weightIn, momentIn}
+use Rattle.rows.specs.Row.{blank, isFree, weightIn, momentIn}
 use Rattle.share.specs.declared.Table.{Table}
 use Rattle.share.specs.Table.{row, trueTotal, trueSum, isEmpty}
 use Rattle.share.specs.Sound.{OrderlyAs, OrderlyRow, Orderly}
@@ -37,23 +37,21 @@ module _ (t : Table) where
     unfolding entry isEmpty
     entry-least c h = simp (ne-eqb (t .total) 0 (λ e. omega arith)) (round-up-least (t .sum) (t .total) c present h)
 
-share-high : (s : State) (w p : ℕ) → OrderlyAs s w p → momentIn (record { weight = w; position = p; state = s }) ≤ weightIn (record { weight = w; position = p; state = s }) * ceiling
-unfolding weightIn momentIn
+-- a row's share of A is at most its share of W, times P
+share-high : (s : State) (w p : ℕ) → OrderlyAs s w p → cond (isFree s) 0 (w * p) * 1 ≤ cond (isFree s) 0 w * ceiling
 share-high Free w p h = omega arith
-share-high Going w p h = mul-le-mul-left w (h .position-high)
-share-high (Asking q) w p h = mul-le-mul-left w (h .0 .position-high)
+share-high Going w p h = omega (arith, mul-le-mul-left w (h .position-high))
+share-high (Asking q) w p h = omega (arith, mul-le-mul-left w (h .0 .position-high))
 
 -- V is at most P
 pub mean-high : (t : Table) → Orderly t → t .sum ≤ ceiling * t .total
-unfolding trueTotal trueSum row
+unfolding trueTotal trueSum row weightIn momentIn
 mean-high t h =
-    omega (
-      arith,
-      h .total-true,
-      h .sum-true,
-      sum-scaled momentIn weightIn ceiling (t .rows) blank
-          (λ i l. let r : Row = getD (t .rows) i blank in share-high (r .state) (r .weight) (r .position) (h .each i)),
-    )
+    omega
+    (arith, h .total-true, h .sum-true, sum-scaled momentIn weightIn 1 ceiling (t .rows) blank
+    (λ i l. let r : Row = getD (t .rows) i blank in share-high (r .state) (r .weight) (r .position) (h .each i)))
 
 pub entry-high : (t : Table) → Orderly t → entry t ≤ ceiling
-entry-high t h = ⊎-elim (λ present. entry-least t present ceiling (mean-high t h)) (λ none. omega (arith, entry-empty t (omega arith))) (le-or-lt 1 (t .total))
+entry-high t h =
+    ⊎-elim (λ present. entry-least t present ceiling (mean-high t h)) (λ none. omega (arith, entry-empty t (omega arith)))
+    (le-or-lt 1 (t .total))

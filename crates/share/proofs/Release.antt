@@ -123,7 +123,7 @@ goers-most : (t : Table) → goers t ≤ length (t .rows)
 unfolding goers goes
 goers-most t = omega (arith, sum-bound goes (t .rows) blank 1 (λ i l. goes-most (isGoing (getD (t .rows) i blank .state))))
 
-ready-inside : (t : Table) (i : ℕ) → Ready t i → i < length (t .rows)
+pub ready-inside : (t : Table) (i : ℕ) → Ready t i → i < length (t .rows)
 ready-inside t i r =
     ⊎-elim (λ past. absurd (clash (r .going) (ap (λ (x : Row). isGoing (x .state)) (row-past t i past)))) (λ l. l) (le-or-lt (length (t .rows)) i)
 
