@@ -14,6 +14,10 @@ use Rattle.laws.specs.Lists.{every, all, allFrom}
 pub clash : {b : Bool} → b ≡ true → b ≡ false → ⊥
 clash p q = true≢false (sym p ∙ q)
 
+pub refuted : (b : Bool) → (b ≡ true → ⊥) → b ≡ false
+refuted true h = absurd (h refl)
+refuted false h = refl
+
 pub either : (b : Bool) → (b ≡ true) ⊎ (b ≡ false)
 either true = _⊎_.inl refl
 either false = _⊎_.inr refl

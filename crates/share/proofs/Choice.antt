@@ -11,7 +11,7 @@ use native.Mathlib.Omega.{arith}
 use lib.Dec.{ltb}
 use lib.ListN.{length, getD, List·getD-eq-default}
 use borrow.Author.Tests.{ltb-true, ltb-false, lt-ltb, le-ltb}
-use Rattle.laws.proofs.Tests.{clash, le-or-lt, and-left, and-right}
+use Rattle.laws.proofs.Tests.{clash, refuted, le-or-lt, and-left, and-right}
 use Rattle.rows.specs.declared.Row.{Row}
 use Rattle.rows.specs.Row.{blank}
 use Rattle.share.specs.declared.Table.{Table}
@@ -31,10 +31,6 @@ precedes-between a b c p q = lt-ltb (deadline b) (deadline c) (omega (arith, ltb
 precedes-irrefl : (a : Row) → precedes a a ≡ true → ⊥
 unfolding precedes
 precedes-irrefl a p = omega (arith, ltb-true (deadline a) (deadline a) p)
-
-not-both : (b : Bool) → (b ≡ true → ⊥) → b ≡ false
-not-both true h = absurd (h refl)
-not-both false h = refl
 
 and-true : (a : Bool) → a && true ≡ false → a ≡ false
 and-true true e = e
@@ -70,7 +66,7 @@ module _ (t : Table) (n : ℕ) where
       record {
         inside = omega arith;
         asks = asks;
-        least = below-next _ n (λ j l e. absurd (clash e (before j l))) (λ e. not-both _ (precedes-irrefl (row t n)));
+        least = below-next _ n (λ j l e. absurd (clash e (before j l))) (λ e. refuted _ (precedes-irrefl (row t n)));
         lowest = below-next _ n (λ j l e. absurd (clash e (before j l))) (λ e p. omega arith);
       }
   takes-over (some b) asks ahead before =
@@ -79,8 +75,8 @@ module _ (t : Table) (n : ℕ) where
         asks = asks;
         least =
             below-next _ n
-            (λ j l e. not-both _ (λ p. clash (precedes-trans (row t j) (row t n) (row t b) p ahead) (before .least j l e)))
-            (λ e. not-both _ (precedes-irrefl (row t n)));
+            (λ j l e. refuted _ (λ p. clash (precedes-trans (row t j) (row t n) (row t b) p ahead) (before .least j l e)))
+            (λ e. refuted _ (precedes-irrefl (row t n)));
         lowest =
             below-next _ n
             (λ j l e p. absurd (clash (precedes-between (row t n) (row t j) (row t b) ahead p) (before .least j l e)))

@@ -8,7 +8,7 @@ use lib.Dec.{leb, ltb, eqb}
 use lib.ListN.{length, getD, List·getD-eq-default}
 use borrow.Author.Tests.{leb-true, ltb-true, eqb-true, le-leb, lt-ltb, eq-eqb, not-true}
 use Rattle.laws.specs.Lists.{all}
-use Rattle.laws.proofs.Tests.{clash, le-or-lt, every-each, each-every, all-at, at-all}
+use Rattle.laws.proofs.Tests.{clash, refuted, le-or-lt, every-each, each-every, all-at, at-all}
 use Rattle.rows.specs.declared.Request.{Request}
 use Rattle.rows.specs.declared.Row.{Row}
 use Rattle.rows.specs.declared.State.{State}
@@ -138,10 +138,6 @@ pub says-ready : (t : Table) (i : ℕ) → Ready t i → ready t (row t i) ≡ t
 unfolding ready
 says-ready t i h = each-every _ (h .going, (yes-reached t _ (h .level), tt))
 
-not-ready : (b : Bool) → (b ≡ true → ⊥) → not b ≡ true
-not-ready true h = absurd (h refl)
-not-ready false h = refl
-
 pub calm-says : (t : Table) → calm t ≡ true → Calm t
 unfolding calm row
 calm-says t e i r =
@@ -151,7 +147,7 @@ calm-says t e i r =
 
 pub says-calm : (t : Table) → Calm t → calm t ≡ true
 unfolding calm row
-says-calm t h = at-all (λ x. not (ready t x)) (t .rows) blank (λ i l. not-ready _ (λ e. h i (ready-says t i e)))
+says-calm t h = at-all (λ x. not (ready t x)) (t .rows) blank (λ i l. ap not (refuted (ready t (row t i)) (λ e. h i (ready-says t i e))))
 
 pub sound-says : (t : Table) → sound t ≡ true → Sound t
 unfolding sound
