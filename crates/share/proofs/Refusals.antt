@@ -29,7 +29,7 @@ first-head : (b : Bool) (this why : Refusal) (rest : Option Refusal) → cond b 
 first-head true this why rest e = _⊎_.inl (refl, cc)
 first-head false this why rest e = _⊎_.inr (refl, e)
 
-head-none : (b : Bool) (this : Refusal) (rest : Option Refusal) → cond b (some this) rest ≡ none → (b ≡ false) × (rest ≡ none)
+pub head-none : (b : Bool) (this : Refusal) (rest : Option Refusal) → cond b (some this) rest ≡ none → (b ≡ false) × (rest ≡ none)
 head-none true this rest e = let z : _≡_ {A = ℕ} 0 1 = cc in absurd (omega arith)
 head-none false this rest e = (refl, e)
 

@@ -1,0 +1,187 @@
+-- What an accepted call may rest on: no refusal applied, so each test of its list was false, and that is a fact about the table and the numbers.
+use mathlib.Core.Path.{_≡_, refl, ap, sym, subst, _∙_}
+use mathlib.Core.Bool.{Bool, true, false, not, cond, _&&_, _||_}
+use mathlib.Core.List.{List, [], _∷_}
+use mathlib.Core.Option.{Option, none, some}
+use Prim.Native.Nat.{ℕ, _≤_, _<_}
+use native.Mathlib.Omega.{arith}
+use lib.Dec.{leb, ltb, eqb}
+use borrow.Author.Tests.{leb-true, leb-false, ltb-false, eqb-true, eqb-false, not-false}
+use Rattle.laws.proofs.Tests.{clash, and-left, and-right}
+use Rattle.rows.specs.Numbers.{queues, maxWeight, maxLength, maxLimit, ceiling}
+use Rattle.rows.specs.Row.{isFree, isAsking}
+use Rattle.share.specs.declared.Refusal.{Refusal}
+use Rattle.share.specs.declared.Reply.{Reply}
+use Rattle.share.specs.declared.Table.{Table}
+use Rattle.share.specs.Table.{row, AtMostV, reached, isEmpty}
+use Rattle.share.specs.Sound.{Sound, sound}
+use Rattle.share.specs.Choice.{deadline}
+use Rattle.share.specs.Events.{chosen}
+use Rattle.share.specs.Refusals.{Check, _when_, firstOf, unsound, queueOutside, outside, lengthOutside, notHolder, rowTaken, notAsking, lagBelow, ceilingPassed, freshChecks, joinChecks, leaveChecks, reweightChecks, lengthChecks, grantChecks, returnChecks}
+use Rattle.share.specs.Calls.{call, refused}
+use Rattle.share.proofs.Calls.{call-refused, call-accepted}
+use Rattle.share.proofs.Refusals.{head-none}
+use Rattle.share.proofs.Sound.{sound-says}
+use Rattle.share.proofs.Virtual.{reached-yes}
+
+-- a call is refused or done
+pub call-cases : (P : Reply → Type 0) (checks : List Check) (t : Table) (event : Reply) → ((why : Refusal) → firstOf checks ≡ some why → P (refused t why)) → (firstOf checks ≡ none → P event) → P (call checks t event)
+unfolding call
+call-cases P checks t event if-refused if-done = by (firstOf checks) refl
+  where
+    by : (o : Option Refusal) → firstOf checks ≡ o → P (call checks t event)
+    by none e = rw (call-accepted checks t event e) (if-done e)
+    by (some why) e = rw (call-refused checks t event why e) (if-refused why e)
+
+-- none of the tests passed
+abbrev pub AllFail : List Check → Type 0
+AllFail [] = Unit {0}
+AllFail ((why when b) ∷ rest) = (b ≡ false) × AllFail rest
+
+pub none-fail : (checks : List Check) → firstOf checks ≡ none → AllFail checks
+none-fail [] e = tt
+none-fail ((why when b) ∷ rest) e = let h = head-none b why (firstOf rest) e in (h .0, none-fail rest (h .1))
+
+is-sound : (t : Table) → unsound t ≡ false → Sound t
+unfolding unsound
+is-sound t e = sound-says t (not-false _ e)
+
+is-inside : (queue : ℕ) → queueOutside queue ≡ false → queue < queues
+unfolding queueOutside
+is-inside queue e = leb-false queues queue e
+
+or-left : (a b : Bool) → a || b ≡ false → a ≡ false
+or-left true b e = e
+or-left false b e = refl
+
+or-right : (a b : Bool) → a || b ≡ false → b ≡ false
+or-right true b e = absurd (clash refl e)
+or-right false b e = e
+
+pub within-low : (low high n : ℕ) → outside low high n ≡ false → low ≤ n
+unfolding outside
+within-low low high n e = ltb-false n low (or-left _ _ e)
+
+pub within-high : (low high n : ℕ) → outside low high n ≡ false → n ≤ high
+unfolding outside
+within-high low high n e = ltb-false high n (or-right (ltb n low) _ e)
+
+is-short : (length : ℕ) → lengthOutside length ≡ false → length ≤ maxLength
+unfolding lengthOutside
+is-short length e = ltb-false maxLength length e
+
+pub record Joins (t : Table) (queue weight length : ℕ) : Type 0 where
+  pub was-sound : Sound t
+  pub inside : queue < queues
+  pub weight-low : 1 ≤ weight
+  pub weight-high : weight ≤ maxWeight
+  pub length-high : length ≤ maxLength
+  pub still : t .out ≡ false
+  pub free : isFree (row t queue .state) ≡ true
+
+pub join-accepted : (t : Table) (queue weight length : ℕ) → firstOf (joinChecks t queue weight length) ≡ none → Joins t queue weight length
+unfolding joinChecks rowTaken
+join-accepted t queue weight length e =
+    let h = none-fail (joinChecks t queue weight length) e in
+    record {
+      was-sound = is-sound t (h .0);
+      inside = is-inside queue (h .1 .0);
+      weight-low = within-low 1 maxWeight weight (h .1 .1 .0);
+      weight-high = within-high 1 maxWeight weight (h .1 .1 .0);
+      length-high = is-short length (h .1 .1 .1 .0);
+      still = h .1 .1 .1 .1 .0;
+      free = not-false _ (h .1 .1 .1 .1 .1 .0) }
+
+pub record Leaves (t : Table) (queue : ℕ) : Type 0 where
+  pub was-sound : Sound t
+  pub inside : queue < queues
+  pub still : t .out ≡ false
+  pub asks : isAsking (row t queue .state) ≡ true
+
+pub leave-accepted : (t : Table) (queue : ℕ) → firstOf (leaveChecks t queue) ≡ none → Leaves t queue
+unfolding leaveChecks notAsking
+leave-accepted t queue e =
+    let h = none-fail (leaveChecks t queue) e in
+    record {
+      was-sound = is-sound t (h .0);
+      inside = is-inside queue (h .1 .0);
+      still = h .1 .1 .0;
+      asks = not-false _ (h .1 .1 .1 .0) }
+
+pub record Reweights (t : Table) (queue weight length : ℕ) : Type 0 where
+  pub leaves : Leaves t queue
+  pub weight-low : 1 ≤ weight
+  pub weight-high : weight ≤ maxWeight
+  pub length-high : length ≤ maxLength
+  pub owed : AtMostV t (row t queue .position)
+
+pub reweight-accepted : (t : Table) (queue weight length : ℕ) → firstOf (reweightChecks t queue weight length) ≡ none → Reweights t queue weight length
+unfolding reweightChecks notAsking lagBelow
+reweight-accepted t queue weight length e =
+    let h = none-fail (reweightChecks t queue weight length) e in
+    record {
+      leaves =
+        record {
+          was-sound = is-sound t (h .0);
+          inside = is-inside queue (h .1 .0);
+          still = h .1 .1 .1 .1 .0;
+          asks = not-false _ (h .1 .1 .1 .1 .1 .0) };
+      weight-low = within-low 1 maxWeight weight (h .1 .1 .0);
+      weight-high = within-high 1 maxWeight weight (h .1 .1 .0);
+      length-high = is-short length (h .1 .1 .1 .0);
+      owed = reached-yes t (row t queue .position) (not-false _ (h .1 .1 .1 .1 .1 .1 .0)) }
+
+pub record Lengthens (t : Table) (queue length : ℕ) : Type 0 where
+  pub leaves : Leaves t queue
+  pub length-high : length ≤ maxLength
+
+pub length-accepted : (t : Table) (queue length : ℕ) → firstOf (lengthChecks t queue length) ≡ none → Lengthens t queue length
+unfolding lengthChecks notAsking
+length-accepted t queue length e =
+    let h = none-fail (lengthChecks t queue length) e in
+    record {
+      leaves =
+        record {
+          was-sound = is-sound t (h .0);
+          inside = is-inside queue (h .1 .0);
+          still = h .1 .1 .1 .0;
+          asks = not-false _ (h .1 .1 .1 .1 .0) };
+      length-high = is-short length (h .1 .1 .0) }
+
+pub record Grants (t : Table) : Type 0 where
+  pub was-sound : Sound t
+  pub still : t .out ≡ false
+  pub present : 0 < t .total
+  pub deadline-high : deadline (row t (chosen t)) ≤ ceiling
+
+above-none : (n : ℕ) → eqb n 0 ≡ false → 0 < n
+above-none n e = let h = eqb-false n 0 e in omega arith
+
+pub grant-accepted : (t : Table) → firstOf (grantChecks t) ≡ none → Grants t
+unfolding grantChecks isEmpty ceilingPassed
+grant-accepted t e =
+    let h = none-fail (grantChecks t) e in
+    record {
+      was-sound = is-sound t (h .0);
+      still = h .1 .0;
+      present = above-none (t .total) (h .1 .1 .0);
+      deadline-high = ltb-false ceiling (deadline (row t (chosen t))) (h .1 .1 .1 .0) }
+
+pub record Returns (t : Table) (queue used : ℕ) : Type 0 where
+  pub was-sound : Sound t
+  pub inside : queue < queues
+  pub held : t .out ≡ true
+  pub holds : queue ≡ t .holder
+  pub within : used ≤ t .ticks
+
+pub return-accepted : (t : Table) (queue used : ℕ) → firstOf (returnChecks t queue used) ≡ none → Returns t queue used
+unfolding returnChecks notHolder
+return-accepted t queue used e =
+    let h = none-fail (returnChecks t queue used) e in
+    let holder = not-false _ (h .1 .1 .0) in
+    record {
+      was-sound = is-sound t (h .0);
+      inside = is-inside queue (h .1 .0);
+      held = and-left (t .out) (eqb queue (t .holder)) holder;
+      holds = eqb-true queue (t .holder) (and-right (t .out) (eqb queue (t .holder)) holder);
+      within = ltb-false (t .ticks) used (h .1 .1 .1 .0) }
