@@ -39,3 +39,12 @@ module _ (t : Table) (i : ℕ) (r : Row) where
         total-true = omega (arith, s .total-true, sum-set weightIn (t .rows) i r blank h);
         sum-true = omega (arith, s .sum-true, sum-set momentIn (t .rows) i r blank h);
       }
+
+  -- a row with the same share leaves W and A as they were
+  pub placed-total : weightIn r ≡ weightIn (row t i) → placed t i r .total ≡ t .total
+  unfolding placed
+  placed-total e = omega arith
+
+  pub placed-sum : momentIn r ≡ momentIn (row t i) → placed t i r .sum ≡ t .sum
+  unfolding placed
+  placed-sum e = omega arith

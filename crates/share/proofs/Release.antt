@@ -45,6 +45,12 @@ module _ (t : Table) (i : ℕ) where
   unfolding freed
   freed-other j h = placed-other t i blank j h
 
+  pub freed-same : row (freed t i) i ≡ blank
+  unfolding freed
+  freed-same =
+      ⊎-elim (λ past. row-past (placed t i blank) i (omega (arith, placed-length t i blank))) (λ l. placed-same t i blank l)
+      (le-or-lt (length (t .rows)) i)
+
   -- what a ready row takes with it
   ready-weight : Ready t i → weightIn (row t i) ≡ row t i .weight
   unfolding weightIn
