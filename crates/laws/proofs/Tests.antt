@@ -18,6 +18,11 @@ pub refuted : (b : Bool) → (b ≡ true → ⊥) → b ≡ false
 refuted true h = absurd (h refl)
 refuted false h = refl
 
+-- two tests that pass together are the same
+pub both-ways : (a b : Bool) → (a ≡ true → b ≡ true) → (b ≡ true → a ≡ true) → a ≡ b
+both-ways true b f g = sym (f refl)
+both-ways false b f g = sym (refuted b (λ e. clash (g e) refl))
+
 pub either : (b : Bool) → (b ≡ true) ⊎ (b ≡ false)
 either true = _⊎_.inl refl
 either false = _⊎_.inr refl

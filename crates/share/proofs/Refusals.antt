@@ -77,6 +77,9 @@ outside-says low high n = (
   λ h. or-says (ltb n low) (ltb high n) .1 (⊎-map (lt-ltb n low) (lt-ltb high n) h),
 )
 
+pub outside-not : (low high n : ℕ) → outside low high n ≡ true → low ≤ n → n ≤ high → ⊥
+outside-not low high n e above below = ⊎-elim (λ h. omega arith) (λ h. omega arith) (outside-says low high n .0 e)
+
 pub queue-outside : (queue : ℕ) → (queueOutside queue ≡ true) ↔ (63 < queue)
 unfolding queueOutside
 queue-outside queue = (leb-true queues queue, le-leb queues queue)

@@ -19,19 +19,19 @@ use Rattle.share.specs.Table.{row, reached}
 use Rattle.share.specs.Sound.{InRange, inRange, OrderlyRequest, orderlyRequest, OrderlyAs, orderlyAs, OrderlyRow, orderlyRow, OrderlyHolder, orderlyHolder, HeldBy, heldBy, OrderlySlice, orderlySlice, Orderly, orderly, Ready, ready, Calm, calm, Sound, sound}
 use Rattle.share.proofs.Virtual.{reached-yes, yes-reached}
 
-in-range : (w p : ℕ) → inRange w p ≡ true → InRange w p
+pub in-range : (w p : ℕ) → inRange w p ≡ true → InRange w p
 unfolding inRange
 in-range w p e = let h = every-each _ e in omega (arith, leb-true)
 
-range-in : {w p : ℕ} → InRange w p → inRange w p ≡ true
+pub range-in : {w p : ℕ} → InRange w p → inRange w p ≡ true
 unfolding inRange
 range-in h = each-every _ (le-leb _ _ (h .weight-low), (le-leb _ _ (h .weight-high), (le-leb _ _ (h .position-high), tt)))
 
-orderly-request : (w p : ℕ) (q : Request) → orderlyRequest w p q ≡ true → OrderlyRequest w p q
+pub orderly-request : (w p : ℕ) (q : Request) → orderlyRequest w p q ≡ true → OrderlyRequest w p q
 unfolding orderlyRequest
 orderly-request w p q e = let h = every-each _ e in omega (arith, leb-true, ltb-true, eqb-true)
 
-request-orderly : {w p : ℕ} {q : Request} → OrderlyRequest w p q → orderlyRequest w p q ≡ true
+pub request-orderly : {w p : ℕ} {q : Request} → OrderlyRequest w p q → orderlyRequest w p q ≡ true
 unfolding orderlyRequest
 request-orderly h =
     each-every _ (

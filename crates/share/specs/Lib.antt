@@ -9,3 +9,4 @@ pub mod Answers
 pub mod Refusals
 pub mod Calls
 pub mod Runs
+pub mod Survey
