@@ -56,6 +56,16 @@ unfolding every
 each-every [] h = refl
 each-every (b ∷ bs) h = and-both (h .0) (each-every bs (h .1))
 
+-- one that fails is enough
+pub first-fails : (b : Bool) (bs : List Bool) → b ≡ false → every (b ∷ bs) ≡ false
+unfolding every
+first-fails b bs e = rw e refl
+
+pub rest-fails : (b : Bool) (bs : List Bool) → every bs ≡ false → every (b ∷ bs) ≡ false
+unfolding every
+rest-fails true bs e = e
+rest-fails false bs e = refl
+
 module _ {ℓ} {A : Type ℓ} (f : A → Bool) where
   pub all-at : (xs : List A) → all f xs ≡ true → (d : A) (i : ℕ) → i < length xs → f (getD xs i d) ≡ true
   all-at [] e d i h = absurd (not-suc-le-zero h)

@@ -1,7 +1,7 @@
 // A row of the share table and what one tick does to it.
 ghost use mathlib.Core.Path.{_≡_};
 ghost use Prim.Native.Nat.{_≤_};
-ghost use Rattle.rows.specs.Numbers.{stepOf, maxLength, ceiling};
+ghost use Rattle.rows.specs.Numbers.{stepOf, steps as allSteps, maxLength, ceiling};
 ghost use Rattle.rows.specs.Row.{deadlineOf, chargedTo};
 
 // The limits of the shop, once; the table type names them for its users.
@@ -57,8 +57,9 @@ pub struct Row {
     pub state: State,
 }
 
-// The step of a weight; 0 of a weight that no queue may have.
-pub fn step_of(weight: u64) -> u64
+// The step of a weight, from a table that the caller lends: a walk over many rows sets it up once. 0 of a weight that no queue may have.
+pub fn step_in(steps: &[u64; 16], weight: u64) -> u64
+    requires { ⌜ now steps ≡ allSteps ⌝ }
     ensures { λ r. ⌜ r ≡ stepOf weight ⌝ }
 {
     if weight < 1 {
@@ -68,7 +69,14 @@ pub fn step_of(weight: u64) -> u64
         return 0;
     }
     let at = (weight - 1) as usize;
-    STEPS[at]
+    steps[at]
+}
+
+pub fn step_of(weight: u64) -> u64
+    ensures { λ r. ⌜ r ≡ stepOf weight ⌝ }
+{
+    let steps = STEPS;
+    step_in(&steps, weight)
 }
 
 impl Request {

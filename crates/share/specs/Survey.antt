@@ -1,20 +1,21 @@
 -- What one walk over the rows tells the calls. Nothing here is promised to a user: it is how the code comes to know what Sound and Choice say.
 use mathlib.Core.Path.{_≡_}
-use mathlib.Core.Bool.{Bool, true, not, cond, _&&_}
+use mathlib.Core.Bool.{Bool, true, cond}
 use mathlib.Core.List.{[], _∷_}
 use Prim.Native.Nat.{ℕ, _+_, _-_, _*_, _≤_, _<_, min}
-use lib.Dec.{leb}
+use lib.Dec.{leb, ltb}
 use Rattle.laws.specs.Lists.{every}
+use Rattle.rows.specs.declared.Request.{Request}
 use Rattle.rows.specs.declared.Row.{Row}
 use Rattle.rows.specs.declared.State.{State}
 use Rattle.rows.specs.declared.State.the-variants.{Free, Going, Asking}
 use Rattle.rows.specs.Numbers.{ceiling}
-use Rattle.rows.specs.Row.{isGoing, weightIn, momentIn, deadlineOf}
+use Rattle.rows.specs.Row.{isGoing, deadlineOf}
 use Rattle.share.specs.declared.survey.Look.{Look}
 use Rattle.share.specs.declared.survey.Survey.{Survey}
 use Rattle.share.specs.declared.Table.{Table}
 use Rattle.share.specs.Table.{row}
-use Rattle.share.specs.Sound.{orderlyRow, sound}
+use Rattle.share.specs.Sound.{orderlyAs, sound}
 use Rattle.share.specs.Choice.{deadline}
 use Rattle.share.specs.Events.{chosen, sliceGiven}
 
@@ -25,41 +26,43 @@ never = 18446744073709551615
 abbrev pub beyond : ℕ
 beyond = ceiling + 1
 
--- an orderly row that is not waiting to be released, A and W being as they are stored
-unfoldable pub fine : ℕ → ℕ → Row → Bool
-fine total sum r = every (orderlyRow r ∷ not (every (isGoing (r .state) ∷ leb (r .position * total) sum ∷ [])) ∷ [])
-
-abbrev pub goingAt : State → ℕ → ℕ
-goingAt Free position = beyond
-goingAt Going position = position
-goingAt (Asking q) position = beyond
-
-abbrev pub deadlineSeen : ℕ → ℕ → State → ℕ → ℕ
-deadlineSeen total sum Free weight = never
-deadlineSeen total sum Going weight = never
-deadlineSeen total sum (Asking q) weight = cond (leb (q .opening * total) sum) (deadlineOf weight q) never
-
-abbrev pub leftAs : State → ℕ
-leftAs Free = 0
-leftAs Going = 0
-leftAs (Asking q) = q .length - q .served
-
-unfoldable pub seenAs : ℕ → ℕ → Row → Look
-seenAs total sum r =
-    record {
-      faults = 0;
-      weight = weightIn r;
-      moment = momentIn r;
-      going = goingAt (r .state) (r .position);
-      deadline = deadlineSeen total sum (r .state) (r .weight);
-      left = leftAs (r .state) }
-
 abbrev pub faulty : Look
 faulty = record { faults = 1; weight = 0; moment = 0; going = beyond; deadline = never; left = 0 }
 
--- one row, by itself
+-- one row, A and W being as they are stored: a fault, or its share of W and A, where it stands if it is going, and its deadline if V has reached
+-- its opening
+unfoldable pub lookFree : ℕ → ℕ → Look
+lookFree weight position =
+    cond (orderlyAs Free weight position) (record { faults = 0; weight = 0; moment = 0; going = beyond; deadline = never; left = 0 }) faulty
+
+unfoldable pub lookGoing : ℕ → ℕ → ℕ → ℕ → Look
+lookGoing total sum weight position =
+    cond (every (orderlyAs Going weight position ∷ ltb sum (position * total) ∷ []))
+    (record { faults = 0; weight = weight; moment = weight * position; going = position; deadline = never; left = 0 })
+    faulty
+
+unfoldable pub deadlineSeen : ℕ → ℕ → ℕ → Request → ℕ
+deadlineSeen total sum weight q = cond (leb (q .opening * total) sum) (deadlineOf weight q) never
+
+unfoldable pub lookAsking : ℕ → ℕ → ℕ → ℕ → Request → Look
+lookAsking total sum weight position q =
+    cond (orderlyAs (Asking q) weight position)
+    (record {
+      faults = 0;
+      weight = weight;
+      moment = weight * position;
+      going = beyond;
+      deadline = deadlineSeen total sum weight q;
+      left = q .length - q .served })
+    faulty
+
+abbrev pub lookAs : ℕ → ℕ → State → ℕ → ℕ → Look
+lookAs total sum Free weight position = lookFree weight position
+lookAs total sum Going weight position = lookGoing total sum weight position
+lookAs total sum (Asking q) weight position = lookAsking total sum weight position q
+
 unfoldable pub lookOf : ℕ → ℕ → Row → Look
-lookOf total sum r = cond (fine total sum r) (seenAs total sum r) faulty
+lookOf total sum r = lookAs total sum (r .state) (r .weight) (r .position)
 
 -- all rows: whether the table is sound; and of a sound one that is not empty whom a grant names, with deadline and what is left of the request;
 -- and a position that no going row stands before

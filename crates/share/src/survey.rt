@@ -1,7 +1,7 @@
 // One walk over the 64 rows tells every call what it needs: whether the table is sound, whom a grant would name, and how far off a release is.
 ghost use mathlib.Core.Path.{_≡_};
 ghost use Prim.Native.Nat.{_≤_};
-ghost use Rattle.rows.specs.Numbers.{ceiling, stepOf, steps as allSteps};
+ghost use Rattle.rows.specs.Numbers.{ceiling, maxLength, stepOf, steps as allSteps};
 ghost use Rattle.share.specs.Sound as sound;
 ghost use Rattle.share.specs.Survey as told;
 
@@ -72,4 +72,92 @@ pub fn request_orderly(q: Request, weight: u64, position: u64, step: u64) -> boo
         return false;
     }
     opening + served * step == position
+}
+
+// A row that is free must be all zero.
+fn look_free(weight: u64, position: u64) -> Look
+    ensures { λ r. ⌜ r ≡ told.lookFree weight position ⌝ }
+{
+    if 0 < weight {
+        return FAULTY;
+    }
+    if 0 < position {
+        return FAULTY;
+    }
+    Look {
+        faults: 0,
+        weight: 0,
+        moment: 0,
+        going: BEYOND,
+        deadline: NEVER,
+        left: 0,
+    }
+}
+
+// A row that is going must be one that V has not reached.
+fn look_going(weight: u64, position: u64, total: u64, sum: u64) -> Look
+    requires { ⌜ total ≤ 1024 ⌝ }
+    ensures { λ r. ⌜ r ≡ told.lookGoing total sum weight position ⌝ }
+{
+    if !in_range(weight, position) {
+        return FAULTY;
+    }
+    if position * total <= sum {
+        return FAULTY;
+    }
+    Look {
+        faults: 0,
+        weight,
+        moment: weight * position,
+        going: position,
+        deadline: NEVER,
+        left: 0,
+    }
+}
+
+// The deadline of a request that V has reached the opening of.
+fn deadline_seen(q: Request, step: u64, weight: u64, total: u64, sum: u64) -> u64
+    requires { ⌜ (q .opening ≤ ceiling) × (q .length ≤ maxLength) × (step ≡ stepOf weight) × (total ≤ 1024) ⌝ }
+    ensures { λ r. ⌜ r ≡ told.deadlineSeen total sum weight q ⌝ }
+{
+    let opening = q.opening;
+    let length = q.length;
+    if opening * total <= sum {
+        return opening + length * step;
+    }
+    NEVER
+}
+
+fn look_asking(q: Request, step: u64, weight: u64, position: u64, total: u64, sum: u64) -> Look
+    requires { ⌜ (step ≡ stepOf weight) × (total ≤ 1024) ⌝ }
+    ensures { λ r. ⌜ r ≡ told.lookAsking total sum weight position q ⌝ }
+{
+    if !in_range(weight, position) {
+        return FAULTY;
+    }
+    if !request_orderly(q, weight, position, step) {
+        return FAULTY;
+    }
+    Look {
+        faults: 0,
+        weight,
+        moment: weight * position,
+        going: BEYOND,
+        deadline: deadline_seen(q, step, weight, total, sum),
+        left: q.length - q.served,
+    }
+}
+
+pub fn look_at(row: Row, steps: &[u64; 16], total: u64, sum: u64) -> Look
+    requires { ⌜ (now steps ≡ allSteps) × (total ≤ 1024) ⌝ }
+    ensures { λ r. ⌜ r ≡ told.lookOf total sum row ⌝ }
+{
+    let weight = row.weight;
+    let position = row.position;
+    let state = row.state;
+    match state {
+        State::Free => look_free(weight, position),
+        State::Going => look_going(weight, position, total, sum),
+        State::Asking(q) => look_asking(q, rows::step_in(steps, weight), weight, position, total, sum),
+    }
 }
