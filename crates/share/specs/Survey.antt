@@ -2,7 +2,7 @@
 use mathlib.Core.Path.{_≡_}
 use mathlib.Core.Bool.{Bool, true, cond}
 use mathlib.Core.List.{[], _∷_}
-use Prim.Native.Nat.{ℕ, _+_, _-_, _*_, _≤_, _<_, min}
+use Prim.Native.Nat.{ℕ, _+_, _-_, _*_, _^_, _≤_, _<_, min}
 use lib.Dec.{leb, ltb}
 use Rattle.laws.specs.Lists.{every}
 use Rattle.rows.specs.declared.Request.{Request}
@@ -12,6 +12,7 @@ use Rattle.rows.specs.declared.State.the-variants.{Free, Going, Asking}
 use Rattle.rows.specs.Numbers.{ceiling}
 use Rattle.rows.specs.Row.{isGoing, deadlineOf}
 use Rattle.share.specs.declared.survey.Look.{Look}
+use Rattle.share.specs.declared.survey.Seen.{Seen}
 use Rattle.share.specs.declared.survey.Survey.{Survey}
 use Rattle.share.specs.declared.Table.{Table}
 use Rattle.share.specs.Table.{row}
@@ -63,6 +64,25 @@ lookAs total sum (Asking q) weight position = lookAsking total sum weight positi
 
 unfoldable pub lookOf : ℕ → ℕ → Row → Look
 lookOf total sum r = lookAs total sum (r .state) (r .weight) (r .position)
+
+-- the sums fit with one row more
+pub record Room (s : Seen) (l : Look) : Type 0 where
+  pub faults-fit : s .faults + l .faults < 2 ^ 64
+  pub weights-fit : s .weights + l .weight < 2 ^ 64
+  pub moments-fit : s .moments + l .moment < 2 ^ 64
+
+-- one row more; the best so far gives way to an earlier deadline only
+unfoldable pub seenNext : Seen → ℕ → Look → Seen
+seenNext s at l =
+    let earlier : Bool = ltb (l .deadline) (s .deadline) in
+    record {
+      faults = s .faults + l .faults;
+      weights = s .weights + l .weight;
+      moments = s .moments + l .moment;
+      going = min (s .going) (l .going);
+      deadline = cond earlier (l .deadline) (s .deadline);
+      queue = cond earlier at (s .queue);
+      left = cond earlier (l .left) (s .left) }
 
 -- all rows: whether the table is sound; and of a sound one that is not empty whom a grant names, with deadline and what is left of the request;
 -- and a position that no going row stands before

@@ -1,6 +1,6 @@
 // One walk over the 64 rows tells every call what it needs: whether the table is sound, whom a grant would name, and how far off a release is.
 ghost use mathlib.Core.Path.{_≡_};
-ghost use Prim.Native.Nat.{_≤_};
+ghost use Prim.Native.Nat.{_≤_, min};
 ghost use Rattle.rows.specs.Numbers.{ceiling, maxLength, stepOf, steps as allSteps};
 ghost use Rattle.share.specs.Sound as sound;
 ghost use Rattle.share.specs.Survey as told;
@@ -22,6 +22,17 @@ pub struct Look {
     pub moment: u64,
     pub going: u64,
     pub deadline: u64,
+    pub left: u64,
+}
+
+// What the rows so far come to.
+pub struct Seen {
+    pub faults: u64,
+    pub weights: u64,
+    pub moments: u64,
+    pub going: u64,
+    pub deadline: u64,
+    pub queue: u64,
     pub left: u64,
 }
 
@@ -159,5 +170,44 @@ pub fn look_at(row: Row, steps: &[u64; 16], total: u64, sum: u64) -> Look
         State::Free => look_free(weight, position),
         State::Going => look_going(weight, position, total, sum),
         State::Asking(q) => look_asking(q, rows::step_in(steps, weight), weight, position, total, sum),
+    }
+}
+
+fn lesser(a: u64, b: u64) -> u64
+    ensures { λ r. ⌜ r ≡ min a b ⌝ }
+{
+    if a < b {
+        return a;
+    }
+    b
+}
+
+// One row more. A deadline takes the best one's place only where it is earlier, so ties stay with the lower number.
+fn seen_next(seen: Seen, at: u64, seeing: Look) -> Seen
+    requires { ⌜ told.Room seen seeing ⌝ }
+    ensures { λ r. ⌜ r ≡ told.seenNext seen at seeing ⌝ }
+{
+    let going = lesser(seen.going, seeing.going);
+    let best = seen.deadline;
+    let deadline = seeing.deadline;
+    if deadline < best {
+        return Seen {
+            faults: seen.faults + seeing.faults,
+            weights: seen.weights + seeing.weight,
+            moments: seen.moments + seeing.moment,
+            going,
+            deadline,
+            queue: at,
+            left: seeing.left,
+        };
+    }
+    Seen {
+        faults: seen.faults + seeing.faults,
+        weights: seen.weights + seeing.weight,
+        moments: seen.moments + seeing.moment,
+        going,
+        deadline: best,
+        queue: seen.queue,
+        left: seen.left,
     }
 }
