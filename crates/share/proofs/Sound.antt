@@ -42,12 +42,12 @@ request-orderly h =
       ),
     )
 
-orderly-as : (s : State) (w p : ℕ) → orderlyAs s w p ≡ true → OrderlyAs s w p
+pub orderly-as : (s : State) (w p : ℕ) → orderlyAs s w p ≡ true → OrderlyAs s w p
 orderly-as Free w p e = let h = every-each _ e in (eqb-true _ _ (h .0), eqb-true _ _ (h .1 .0))
 orderly-as Going w p e = in-range w p e
 orderly-as (Asking q) w p e = let h = every-each _ e in (in-range w p (h .0), orderly-request w p q (h .1 .0))
 
-as-orderly : (s : State) (w p : ℕ) → OrderlyAs s w p → orderlyAs s w p ≡ true
+pub as-orderly : (s : State) (w p : ℕ) → OrderlyAs s w p → orderlyAs s w p ≡ true
 as-orderly Free w p h = each-every _ (eq-eqb _ _ (h .0), (eq-eqb _ _ (h .1), tt))
 as-orderly Going w p h = range-in h
 as-orderly (Asking q) w p h = each-every _ (range-in (h .0), (request-orderly (h .1), tt))
