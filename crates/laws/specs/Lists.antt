@@ -1,8 +1,14 @@
 -- Sums and tests over a list of anything.
+use mathlib.Core.Path.{_≡_}
 use mathlib.Core.Bool.{Bool, true, cond, _&&_}
 use mathlib.Core.List.{List, [], _∷_}
 use mathlib.Core.Option.{Option, none, some}
 use Prim.Native.Nat.{ℕ, suc, _+_}
+
+-- a test that passes exactly when a fact holds
+pub record Decides (b : Bool) (fact : Type 0) : Type 0 where
+  pub says : b ≡ true → fact
+  pub told : fact → b ≡ true
 
 -- all of these tests pass
 unfoldable pub every : List Bool → Bool

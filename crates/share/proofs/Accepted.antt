@@ -90,7 +90,8 @@ join-accepted t queue weight length e =
       weight-high = within-high 1 maxWeight weight (h .1 .1 .0);
       length-high = is-short length (h .1 .1 .1 .0);
       still = h .1 .1 .1 .1 .0;
-      free = not-false _ (h .1 .1 .1 .1 .1 .0) }
+      free = not-false _ (h .1 .1 .1 .1 .1 .0);
+    }
 
 pub record Leaves (t : Table) (queue : ℕ) : Type 0 where
   pub was-sound : Sound t
@@ -106,7 +107,8 @@ leave-accepted t queue e =
       was-sound = is-sound t (h .0);
       inside = is-inside queue (h .1 .0);
       still = h .1 .1 .0;
-      asks = not-false _ (h .1 .1 .1 .0) }
+      asks = not-false _ (h .1 .1 .1 .0);
+    }
 
 pub record Reweights (t : Table) (queue weight length : ℕ) : Type 0 where
   pub leaves : Leaves t queue
@@ -121,15 +123,17 @@ reweight-accepted t queue weight length e =
     let h = none-fail (reweightChecks t queue weight length) e in
     record {
       leaves =
-        record {
-          was-sound = is-sound t (h .0);
-          inside = is-inside queue (h .1 .0);
-          still = h .1 .1 .1 .1 .0;
-          asks = not-false _ (h .1 .1 .1 .1 .1 .0) };
+          record {
+            was-sound = is-sound t (h .0);
+            inside = is-inside queue (h .1 .0);
+            still = h .1 .1 .1 .1 .0;
+            asks = not-false _ (h .1 .1 .1 .1 .1 .0);
+          };
       weight-low = within-low 1 maxWeight weight (h .1 .1 .0);
       weight-high = within-high 1 maxWeight weight (h .1 .1 .0);
       length-high = is-short length (h .1 .1 .1 .0);
-      owed = reached-yes t (row t queue .position) (not-false _ (h .1 .1 .1 .1 .1 .1 .0)) }
+      owed = reached-yes t (row t queue .position) (not-false _ (h .1 .1 .1 .1 .1 .1 .0));
+    }
 
 pub record Lengthens (t : Table) (queue length : ℕ) : Type 0 where
   pub leaves : Leaves t queue
@@ -141,12 +145,14 @@ length-accepted t queue length e =
     let h = none-fail (lengthChecks t queue length) e in
     record {
       leaves =
-        record {
-          was-sound = is-sound t (h .0);
-          inside = is-inside queue (h .1 .0);
-          still = h .1 .1 .1 .0;
-          asks = not-false _ (h .1 .1 .1 .1 .0) };
-      length-high = is-short length (h .1 .1 .0) }
+          record {
+            was-sound = is-sound t (h .0);
+            inside = is-inside queue (h .1 .0);
+            still = h .1 .1 .1 .0;
+            asks = not-false _ (h .1 .1 .1 .1 .0);
+          };
+      length-high = is-short length (h .1 .1 .0);
+    }
 
 pub record Grants (t : Table) : Type 0 where
   pub was-sound : Sound t
@@ -165,7 +171,8 @@ grant-accepted t e =
       was-sound = is-sound t (h .0);
       still = h .1 .0;
       present = above-none (t .total) (h .1 .1 .0);
-      deadline-high = ltb-false ceiling (deadline (row t (chosen t))) (h .1 .1 .1 .0) }
+      deadline-high = ltb-false ceiling (deadline (row t (chosen t))) (h .1 .1 .1 .0);
+    }
 
 pub record Returns (t : Table) (queue used : ℕ) : Type 0 where
   pub was-sound : Sound t
@@ -184,4 +191,5 @@ return-accepted t queue used e =
       inside = is-inside queue (h .1 .0);
       held = and-left (t .out) (eqb queue (t .holder)) holder;
       holds = eqb-true queue (t .holder) (and-right (t .out) (eqb queue (t .holder)) holder);
-      within = ltb-false (t .ticks) used (h .1 .1 .1 .0) }
+      within = ltb-false (t .ticks) used (h .1 .1 .1 .0);
+    }

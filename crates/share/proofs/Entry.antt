@@ -47,9 +47,13 @@ share-high (Asking q) w p h = omega (arith, mul-le-mul-left w (h .0 .position-hi
 pub mean-high : (t : Table) → Orderly t → t .sum ≤ ceiling * t .total
 unfolding trueTotal trueSum row weightIn momentIn
 mean-high t h =
-    omega
-    (arith, h .total-true, h .sum-true, sum-scaled momentIn weightIn 1 ceiling (t .rows) blank
-    (λ i l. let r : Row = getD (t .rows) i blank in share-high (r .state) (r .weight) (r .position) (h .each i)))
+    omega (
+      arith,
+      h .total-true,
+      h .sum-true,
+      sum-scaled momentIn weightIn 1 ceiling (t .rows) blank
+          (λ i l. let r : Row = getD (t .rows) i blank in share-high (r .state) (r .weight) (r .position) (h .each i)),
+    )
 
 pub entry-high : (t : Table) → Orderly t → entry t ≤ ceiling
 entry-high t h =

@@ -50,7 +50,8 @@ placed-keeps t i r still h inside new =
       each = λ j. each-placed t i r h inside new j (ℕ-discrete j i);
       total-true = sums .total-true;
       sum-true = sums .sum-true;
-      slice = slice-none (placed t i r) still (no-slice t still (h .slice)) }
+      slice = slice-none (placed t i r) still (no-slice t still (h .slice));
+    }
 
 pub freed-keeps : (t : Table) (i : ℕ) → t .out ≡ false → Orderly t → i < queues → Orderly (freed t i)
 unfolding freed

@@ -93,7 +93,8 @@ rejoins t queue weight length r =
       weight-high = r .weight-high;
       length-high = r .length-high;
       still = frees-out (released-frees (placed t queue (leaving t (row t queue)))) ∙ placed-out t queue _ ∙ r .leaves .still;
-      free = left-free t queue (r .leaves) (r .owed) }
+      free = left-free t queue (r .leaves) (r .owed);
+    }
 
 pub reweighted-sound : (t : Table) (queue weight length : ℕ) → Reweights t queue weight length → Sound (reweighted t queue weight length)
 unfolding reweighted
@@ -110,7 +111,8 @@ calm-placed t i r inside stays w m calm j ready = by (ℕ-discrete j i)
         calm j
         (record {
           going = rw (placed-other t i r j apart) at (ready .going);
-          level = rw (placed-other t i r j apart, placed-total t i r w, placed-sum t i r m) at (ready .level) })
+          level = rw (placed-other t i r j apart, placed-total t i r w, placed-sum t i r m) at (ready .level);
+        })
 
 next-share : (s : State) (length : ℕ) → (isFree (nextSet s length) ≡ isFree s) × (isGoing (nextSet s length) ≡ isGoing s)
 next-share Free length = (refl, refl)
@@ -133,13 +135,14 @@ length-sound t queue length l =
     let inside : queue < lib.ListN.length (t .rows) = omega (arith, l .leaves .inside, o .one-each) in
     record {
       orderly-table =
-        placed-keeps t queue new (l .leaves .still) o (l .leaves .inside)
-        (next-orderly (old .state) (old .weight) (old .position) length (l .length-high) (o .each queue));
+          placed-keeps t queue new (l .leaves .still) o (l .leaves .inside)
+          (next-orderly (old .state) (old .weight) (old .position) length (l .length-high) (o .each queue));
       no-one-ready =
-        calm-placed t queue new inside (kind .1 ∙ asking-stays (old .state) (l .leaves .asks))
-        (ap (λ (b : Bool). cond b 0 (old .weight)) (kind .0))
-        (ap (λ (b : Bool). cond b 0 (old .weight * old .position)) (kind .0))
-        (s .no-one-ready) }
+          calm-placed t queue new inside (kind .1 ∙ asking-stays (old .state) (l .leaves .asks))
+          (ap (λ (b : Bool). cond b 0 (old .weight)) (kind .0))
+          (ap (λ (b : Bool). cond b 0 (old .weight * old .position)) (kind .0))
+          (s .no-one-ready);
+    }
 
 -- a slice comes and goes without a change to any row
 calm-slice : (t : Table) (out : Bool) (holder ticks : ℕ) → Calm t → Calm (withSlice t out holder ticks)
@@ -169,15 +172,17 @@ granted-sound t g =
     let r = row t (chosen t) in
     record {
       orderly-table =
-        record {
-          one-each = o .one-each;
-          limit-low = o .limit-low;
-          limit-high = o .limit-high;
-          each = o .each;
-          total-true = o .total-true;
-          sum-true = o .sum-true;
-          slice = granted-holder t (chosen t) (r .weight) (r .state) (chosen-meets t (g .was-sound) (g .present) .asks) (g .deadline-high) };
-      no-one-ready = calm-slice t true (chosen t) (sliceGiven t) (g .was-sound .no-one-ready) }
+          record {
+            one-each = o .one-each;
+            limit-low = o .limit-low;
+            limit-high = o .limit-high;
+            each = o .each;
+            total-true = o .total-true;
+            sum-true = o .sum-true;
+            slice = granted-holder t (chosen t) (r .weight) (r .state) (chosen-meets t (g .was-sound) (g .present) .asks) (g .deadline-high);
+          };
+      no-one-ready = calm-slice t true (chosen t) (sliceGiven t) (g .was-sound .no-one-ready);
+    }
 
 -- the slice taken in: an orderly table without one
 pub taken-in : (t : Table) → Orderly t → Orderly (withSlice t false 0 0)
@@ -190,7 +195,8 @@ taken-in t o =
       each = o .each;
       total-true = o .total-true;
       sum-true = o .sum-true;
-      slice = (refl, refl) }
+      slice = (refl, refl);
+    }
 
 -- the holder's request, when a slice is out
 pub record Holding (t : Table) (r : Row) : Type 0 where
@@ -219,9 +225,9 @@ charge-within t queue used r =
     let h = holding t queue used r in
     let w = row t queue .weight in
     let as-asking : OrderlyAs (Asking (h .request)) w (row t queue .position) =
-      subst (λ (s : State). OrderlyAs s w (row t queue .position)) (h .is-asking) (r .was-sound .orderly-table .each queue) in
+    subst (λ (s : State). OrderlyAs s w (row t queue .position)) (h .is-asking) (r .was-sound .orderly-table .each queue) in
     let fits : h .request .served + used ≤ h .request .length =
-      omega (arith, r .within, h .orderly-holder .lesser, slice-within (t .limit) (h .request) (as-asking .1 .served-less)) in
+    omega (arith, r .within, h .orderly-holder .lesser, slice-within (t .limit) (h .request) (as-asking .1 .served-less)) in
     omega (arith, charge-high w (row t queue .position) used (h .request) (as-asking .1) fits, h .orderly-holder .deadline-high)
 
 pub returned-sound : (t : Table) (queue used : ℕ) (early : Bool) → Returns t queue used → Sound (returned t queue used early)
@@ -244,15 +250,17 @@ unfolding emptyTable row trueTotal trueSum weightIn momentIn
 empty-sound limit low high =
     record {
       orderly-table =
-        record {
-          one-each = refl;
-          limit-low = low;
-          limit-high = high;
-          each = λ i. subst⁻¹ OrderlyRow (blank-row queues i) (refl, refl);
-          total-true = refl;
-          sum-true = refl;
-          slice = (refl, refl) };
-      no-one-ready = λ i ready. clash (ready .going) (ap (λ (r : Row). isGoing (r .state)) (blank-row queues i)) }
+          record {
+            one-each = refl;
+            limit-low = low;
+            limit-high = high;
+            each = λ i. subst⁻¹ OrderlyRow (blank-row queues i) (refl, refl);
+            total-true = refl;
+            sum-true = refl;
+            slice = (refl, refl);
+          };
+      no-one-ready = λ i ready. clash (ready .going) (ap (λ (r : Row). isGoing (r .state)) (blank-row queues i));
+    }
 
 -- "an accepted event on a sound table gives a sound table", and a refused one gives the table back
 pub step-keeps : (t : Table) (e : Event) → Sound t → Sound (step t e .table)

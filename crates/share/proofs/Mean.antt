@@ -39,12 +39,16 @@ pub some-eligible : (t : Table) → Sound t → 0 < t .total → choice t ≡ no
 unfolding trueTotal trueSum row weightIn momentIn eligible
 some-eligible t h present missing =
     let o = h .orderly-table in
-    omega
-    (arith, present, o .total-true, o .sum-true,
-    ap {B = ℕ} (λ (x : ℕ). x * suc (t .sum)) (o .total-true),
-    ap {B = ℕ} (λ (x : ℕ). x * t .total) (o .sum-true),
-    sum-scaled weightIn momentIn (suc (t .sum)) (t .total) (t .rows) blank
-    (λ i l. let r : Row = getD (t .rows) i blank in
-    row-above t (r .state) (r .weight) (r .position) (o .each i)
-    (refuted _ (choice-none t missing i))
-    (λ going. refuted _ (λ reach. h .no-one-ready i (record { going = going; level = reached-yes t (r .position) reach })))))
+    omega (
+      arith,
+      present,
+      o .total-true,
+      o .sum-true,
+      ap {B = ℕ} (λ (x : ℕ). x * suc (t .sum)) (o .total-true),
+      ap {B = ℕ} (λ (x : ℕ). x * t .total) (o .sum-true),
+      sum-scaled weightIn momentIn (suc (t .sum)) (t .total) (t .rows) blank
+          (λ i l. let r : Row = getD (t .rows) i blank in
+          row-above t (r .state) (r .weight) (r .position) (o .each i)
+          (refuted _ (choice-none t missing i))
+          (λ going. refuted _ (λ reach. h .no-one-ready i (record { going = going; level = reached-yes t (r .position) reach })))),
+    )

@@ -39,7 +39,8 @@ opened-orderly w p length low high =
       next-low = low;
       next-high = high;
       served-less = low;
-      stands = omega arith }
+      stands = omega arith;
+    }
 
 pub entering-orderly : (w p length : ℕ) → InRange w p → length ≤ maxLength → OrderlyRow (entering w p (lengthMeant length))
 unfolding entering
@@ -63,15 +64,17 @@ unfolding positionOf
 next-orderly Free w p length high h = h
 next-orderly Going w p length high h = h
 next-orderly (Asking q) w p length high h =
-    let r = h .1 in
-    (h .0
-    , record {
+    let r = h .1 in (
+      h .0,
+      record {
         length-low = r .length-low;
         length-high = r .length-high;
         next-low = meant-low length;
         next-high = meant-high length high;
         served-less = r .served-less;
-        stands = r .stands })
+        stands = r .stands;
+      },
+    )
 
 -- a charge within the request ends at most at its deadline
 pub charge-high : (w p used : ℕ) (q : Request) → OrderlyRequest w p q → q .served + used ≤ q .length → chargedTo w p used ≤ deadlineOf w q
@@ -92,13 +95,15 @@ going-on w p used q h less =
       next-low = h .next-low;
       next-high = h .next-high;
       served-less = less;
-      stands = omega (arith, h .stands) }
+      stands = omega (arith, h .stands);
+    }
 
 served-orderly : (w p used : ℕ) (early : Bool) (q : Request) → InRange w p → OrderlyRequest w p q → chargedTo w p used ≤ ceiling → OrderlyAs (served (Asking q) (chargedTo w p used) used early) w (chargedTo w p used)
 served-orderly w p used early q range h high = by (early || leb (q .length) (q .served + used)) refl
   where
     moved : InRange w (chargedTo w p used)
     moved = record { weight-low = range .weight-low; weight-high = range .weight-high; position-high = high }
+
     by : (b : Bool) → (early || leb (q .length) (q .served + used)) ≡ b → OrderlyAs (cond b (Asking (opened (chargedTo w p used) (q .next))) (Asking (record { opening = q .opening; length = q .length; served = q .served + used; next = q .next }))) w (chargedTo w p used)
     by true e = (moved, opened-orderly w (chargedTo w p used) (q .next) (h .next-low) (h .next-high))
     by false e = (moved, going-on w p used q h (leb-false (q .length) (q .served + used) (later-in early _ e)))

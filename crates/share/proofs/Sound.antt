@@ -60,13 +60,13 @@ pub row-orderly : (r : Row) → OrderlyRow r → orderlyRow r ≡ true
 unfolding orderlyRow
 row-orderly r h = as-orderly (r .state) (r .weight) (r .position) h
 
-orderly-holder : (t : Table) (w : ℕ) (q : Request) → orderlyHolder t w q ≡ true → OrderlyHolder t w q
+pub orderly-holder : (t : Table) (w : ℕ) (q : Request) → orderlyHolder t w q ≡ true → OrderlyHolder t w q
 unfolding orderlyHolder
 orderly-holder t w q e =
     let h = every-each _ e in
     record { opened = reached-yes t _ (h .0); deadline-high = leb-true _ _ (h .1 .0); lesser = eqb-true _ _ (h .1 .1 .0) }
 
-holder-orderly : (t : Table) {w : ℕ} {q : Request} → OrderlyHolder t w q → orderlyHolder t w q ≡ true
+pub holder-orderly : (t : Table) {w : ℕ} {q : Request} → OrderlyHolder t w q → orderlyHolder t w q ≡ true
 unfolding orderlyHolder
 holder-orderly t h = each-every _ (yes-reached t _ (h .opened), (le-leb _ _ (h .deadline-high), (eq-eqb _ _ (h .lesser), tt)))
 

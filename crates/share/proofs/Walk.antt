@@ -83,7 +83,8 @@ look-says t Free w p =
       weight-high = omega arith;
       moment-high = omega arith;
       seen = λ g. absurd (clash g refl);
-      unseen = λ g. refl })
+      unseen = λ g. refl;
+    })
     (λ e f. clash (as-orderly Free w p (f .orderly)) e)
 look-says t Going w p =
     says-by t Going w p (every (orderlyAs Going w p ∷ ltb (t .sum) (p * t .total) ∷ [])) _
@@ -99,7 +100,8 @@ look-says t Going w p =
       weight-high = range .weight-high;
       moment-high = moment-fits range;
       seen = λ g. absurd (clash g refl);
-      unseen = λ g. refl })
+      unseen = λ g. refl;
+    })
     (λ e f. clash (each-every _ (as-orderly Going w p (f .orderly), (lt-ltb (t .sum) (p * t .total) (f .ahead refl), tt))) e)
 look-says t (Asking q) w p =
     says-by t (Asking q) w p (orderlyAs (Asking q) w p) _
@@ -114,8 +116,9 @@ look-says t (Asking q) w p =
       weight-high = h .0 .weight-high;
       moment-high = moment-fits (h .0);
       seen = λ g. let d = sym (seen-reached (t .total) (t .sum) w q (reached-yes t (q .opening) g)) in
-      (d, subst⁻¹ (λ (x : ℕ). x < never) d (deadline-near w p q (h .0) (h .1)), refl);
-      unseen = λ g. sym (seen-never (t .total) (t .sum) w q (reached-no t (q .opening) g)) })
+          (d, subst⁻¹ (λ (x : ℕ). x < never) d (deadline-near w p q (h .0) (h .1)), refl);
+      unseen = λ g. sym (seen-never (t .total) (t .sum) w q (reached-no t (q .opening) g));
+    })
     (λ e f. clash (as-orderly (Asking q) w p (f .orderly)) e)
 
 -- the same of a row
@@ -136,9 +139,11 @@ best-next true b d best queue i most real never-seen against first = ⊎-elim no
     none-yet : never ≤ best → cond b (some i) (bestAt best queue) ≡ bestAt (cond (ltb d best) d best) (cond (ltb d best) i queue)
     none-yet h =
         rw (first (omega arith), lt-ltb d best (omega (arith, real refl))) (rw (lt-ltb d never (real refl)) refl)
+
     by : (x : Bool) → ltb d best ≡ x → cond x (some i) (bestAt best queue) ≡ bestAt (cond x d best) (cond x i queue)
     by true e = rw (lt-ltb d never (real refl)) refl
     by false e = refl
+
     some-yet : best < never → cond b (some i) (bestAt best queue) ≡ bestAt (cond (ltb d best) d best) (cond (ltb d best) i queue)
     some-yet h = rw (against refl h) (by (ltb d best) refl)
 
@@ -182,8 +187,10 @@ walk-starts t =
         moments-left = omega arith;
         going-below = λ j h. absurd (omega arith);
         rest = refl;
-        best = λ h. absurd (omega arith) };
-      failed = λ h. absurd (omega arith) }
+        best = λ h. absurd (omega arith);
+      };
+      failed = λ h. absurd (omega arith);
+    }
 
 -- the row at i, and those after it
 left-at : (t : Table) (i : ℕ) → i < length (t .rows) → drop i (t .rows) ≡ row t i ∷ drop (suc i) (t .rows)
@@ -251,7 +258,8 @@ module _ (t : Table) (i : ℕ) (s : Seen) (l : Look) (inside : i < length (t .ro
         moments-left = moments-next;
         going-below = going-next;
         rest = rest-next;
-        best = best-by (ltb (l .deadline) (s .deadline)) refl }
+        best = best-by (ltb (l .deadline) (s .deadline)) refl;
+      }
 
 no-more : (x : Bool) (a b : ℕ) → a ≤ never → b ≤ never → cond x a b ≤ never
 no-more true a b p q = p
@@ -272,7 +280,8 @@ next-good t i s l inside h good =
       going-most = omega (arith, h .going-most);
       deadline-most = no-more (ltb (l .deadline) (s .deadline)) (l .deadline) (s .deadline) (good-deadline t i l good) (h .deadline-most);
       passed = λ e. passed-next t i s l inside (h .deadline-most) good (h .passed (omega arith));
-      failed = λ f. h .failed (omega (arith, good .no-fault)) }
+      failed = λ f. h .failed (omega (arith, good .no-fault));
+    }
 
 next-faulty : (t : Table) (i : ℕ) (s : Seen) → SoFar t i s → (FineRow t i → ⊥) → SoFar t (suc i) (seenNext s i faulty)
 unfolding seenNext
@@ -284,7 +293,8 @@ next-faulty t i s h broken =
       going-most = omega (arith, h .going-most);
       deadline-most = no-more (ltb never (s .deadline)) never (s .deadline) (omega arith) (h .deadline-most);
       passed = λ e. absurd (omega arith);
-      failed = λ f fine. broken (fine i) }
+      failed = λ f fine. broken (fine i);
+    }
 
 pub walk-next : (t : Table) (i : ℕ) (s : Seen) (l : Look) → i < length (t .rows) → SoFar t i s → l ≡ lookOf (t .total) (t .sum) (row t i) → SoFar t (suc i) (seenNext s i l)
 unfolding Says
@@ -307,4 +317,5 @@ walk-room t i s l r inside h is =
     record {
       faults-fit = omega (arith, h .faults-most);
       weights-fit = omega (arith, h .weights-most);
-      moments-fit = omega (arith, h .moments-most) }
+      moments-fit = omega (arith, h .moments-most);
+    }

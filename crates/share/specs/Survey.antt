@@ -4,19 +4,20 @@ use mathlib.Core.Bool.{Bool, true, cond}
 use mathlib.Core.List.{[], _∷_}
 use Prim.Native.Nat.{ℕ, _+_, _-_, _*_, _^_, _≤_, _<_, min}
 use lib.Dec.{leb, ltb}
+use lib.ListN.{length}
 use Rattle.laws.specs.Lists.{every}
 use Rattle.rows.specs.declared.Request.{Request}
 use Rattle.rows.specs.declared.Row.{Row}
 use Rattle.rows.specs.declared.State.{State}
 use Rattle.rows.specs.declared.State.the-variants.{Free, Going, Asking}
-use Rattle.rows.specs.Numbers.{ceiling}
+use Rattle.rows.specs.Numbers.{queues, ceiling, maxLength, maxLimit}
 use Rattle.rows.specs.Row.{isGoing, deadlineOf}
 use Rattle.share.specs.declared.survey.Look.{Look}
 use Rattle.share.specs.declared.survey.Seen.{Seen}
 use Rattle.share.specs.declared.survey.Survey.{Survey}
 use Rattle.share.specs.declared.Table.{Table}
 use Rattle.share.specs.Table.{row}
-use Rattle.share.specs.Sound.{orderlyAs, sound}
+use Rattle.share.specs.Sound.{orderlyAs, OrderlyRow, sound}
 use Rattle.share.specs.Choice.{deadline}
 use Rattle.share.specs.Events.{chosen, sliceGiven}
 
@@ -54,7 +55,8 @@ lookAsking total sum weight position q =
       moment = weight * position;
       going = beyond;
       deadline = deadlineSeen total sum weight q;
-      left = q .length - q .served })
+      left = q .length - q .served;
+    })
     faulty
 
 abbrev pub lookAs : ℕ → ℕ → State → ℕ → ℕ → Look
@@ -82,7 +84,34 @@ seenNext s at l =
       going = min (s .going) (l .going);
       deadline = cond earlier (l .deadline) (s .deadline);
       queue = cond earlier at (s .queue);
-      left = cond earlier (l .left) (s .left) }
+      left = cond earlier (l .left) (s .left);
+    }
+
+-- no row had a fault, and the sums are the stored ones; the limit is in its range
+pub record Whole (s : Seen) (total sum limit : ℕ) : Type 0 where
+  pub no-fault : s .faults ≡ 0
+  pub total-is : s .weights ≡ total
+  pub sum-is : s .moments ≡ sum
+  pub limit-low : 1 ≤ limit
+  pub limit-high : limit ≤ maxLimit
+
+pub record Place (queue at : ℕ) : Type 0 where
+  pub inside : at < queues
+  pub same : queue < queues → at ≡ queue
+
+-- a request whose numbers are in range, so that its products fit
+pub record Servable (q : Request) (total : ℕ) : Type 0 where
+  pub opening-high : q .opening ≤ ceiling
+  pub length-high : q .length ≤ maxLength
+  pub served-less : q .served < q .length
+  pub total-high : total ≤ 1024
+
+-- the row of the queue that holds the slice, if there is such a row
+pub record Held (t : Table) (r : Row) : Type 0 where
+  pub one-each : length (t .rows) ≡ queues
+  pub orderly : OrderlyRow r
+  pub total-high : t .total ≤ 1024
+  pub its-row : t .holder < queues → row t (t .holder) ≡ r
 
 -- all rows: whether the table is sound; and of a sound one that is not empty whom a grant names, with deadline and what is left of the request;
 -- and a position that no going row stands before

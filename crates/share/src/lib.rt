@@ -3,6 +3,7 @@ ghost use mathlib.Core.Path.{_≡_};
 ghost use Rattle.share.specs.Events.{emptyTable};
 ghost use Rattle.share.specs.Calls.{freshReply, accepted, refused};
 ghost use Rattle.share.specs.Refusals as checks;
+
 mod survey;
 
 use rows::Row;

@@ -1,18 +1,22 @@
 // One walk over the 64 rows tells every call what it needs: whether the table is sound, whom a grant would name, and how far off a release is.
 ghost use mathlib.Core.Path.{_≡_};
 ghost use Prim.Native.Nat.{_≤_, min};
+ghost use Rattle.laws.specs.Lists.{Decides};
 ghost use Rattle.rows.specs.Numbers.{ceiling, maxLength, stepOf, steps as allSteps};
 ghost use Rattle.share.specs.Sound as sound;
 ghost use Rattle.share.specs.Survey as told;
-
-use crate::outside;
 use crate::Table;
+use crate::outside;
 use rows::Request;
 use rows::Row;
 use rows::State;
 
+// The most that 64 rows can weigh.
+const MAX_TOTAL: u64 = rows::QUEUES * rows::MAX_WEIGHT;
+
 // A deadline and a position that no row of a sound table comes near.
 const NEVER: u64 = 18_446_744_073_709_551_615;
+
 const BEYOND: u64 = rows::CEILING + 1;
 
 // What one row adds to the survey. All numbers, as the walk carries them.
@@ -51,6 +55,24 @@ const FAULTY: Look = Look {
     going: BEYOND,
     deadline: NEVER,
     left: 0,
+};
+
+const UNSEEN: Seen = Seen {
+    faults: 0,
+    weights: 0,
+    moments: 0,
+    going: BEYOND,
+    deadline: NEVER,
+    queue: 0,
+    left: 0,
+};
+
+const UNSOUND: Survey = Survey {
+    sound: false,
+    queue: 0,
+    deadline: NEVER,
+    left: 0,
+    going: 0,
 };
 
 pub fn in_range(weight: u64, position: u64) -> bool
@@ -169,7 +191,14 @@ pub fn look_at(row: Row, steps: &[u64; 16], total: u64, sum: u64) -> Look
     match state {
         State::Free => look_free(weight, position),
         State::Going => look_going(weight, position, total, sum),
-        State::Asking(q) => look_asking(q, rows::step_in(steps, weight), weight, position, total, sum),
+        State::Asking(q) => look_asking(
+            q,
+            rows::step_in(steps, weight),
+            weight,
+            position,
+            total,
+            sum,
+        ),
     }
 }
 
@@ -209,5 +238,124 @@ fn seen_next(seen: Seen, at: u64, seeing: Look) -> Seen
         deadline: best,
         queue: seen.queue,
         left: seen.left,
+    }
+}
+
+fn whole(seen: Seen, total: u64, sum: u64, limit: u64) -> bool
+    ensures { λ r. ⌜ Decides r (told.Whole seen total sum limit) ⌝ }
+{
+    let faults = seen.faults;
+    let weights = seen.weights;
+    let moments = seen.moments;
+    if 0 < faults {
+        return false;
+    }
+    if weights != total {
+        return false;
+    }
+    if moments != sum {
+        return false;
+    }
+    if limit < 1 {
+        return false;
+    }
+    limit <= Table::MAX_LIMIT
+}
+
+// A queue number as a place among the rows; 0 where there is no such row.
+pub fn place(queue: u64) -> usize
+    ensures { λ r. ⌜ told.Place queue r ⌝ }
+{
+    if queue < Table::QUEUES {
+        return queue as usize;
+    }
+    0
+}
+
+impl Table {
+    // The request that a slice is out for.
+    fn request_held(self, q: Request, weight: u64) -> bool
+        requires { ⌜ told.Servable q (self .total) ⌝ }
+        ensures { λ r. ⌜ r ≡ sound.orderlyHolder self weight q ⌝ }
+    {
+        let opening = q.opening;
+        let total = self.total;
+        let sum = self.sum;
+        let limit = self.limit;
+        let ticks = self.ticks;
+        if sum < opening * total {
+            return false;
+        }
+        let deadline = q.deadline(weight);
+        if Table::CEILING < deadline {
+            return false;
+        }
+        let left = q.length - q.served;
+        ticks == lesser(limit, left)
+    }
+
+    fn holder_orderly(self, held: Row) -> bool
+        requires { ⌜ (sound.OrderlyRow held) × (self .total ≤ 1024) ⌝ }
+        ensures { λ r. ⌜ r ≡ sound.heldBy self (held .state) (held .weight) ⌝ }
+    {
+        let weight = held.weight;
+        let state = held.state;
+        match state {
+            State::Free => false,
+            State::Going => false,
+            State::Asking(q) => self.request_held(q, weight),
+        }
+    }
+
+    fn slice_orderly(self, held: Row) -> bool
+        requires { ⌜ told.Held self held ⌝ }
+        ensures { λ r. ⌜ r ≡ sound.orderlySlice self (self .out) ⌝ }
+    {
+        let out = self.out;
+        let holder = self.holder;
+        let ticks = self.ticks;
+        if out {
+            if Table::QUEUES <= holder {
+                return false;
+            }
+            return self.holder_orderly(held);
+        }
+        if 0 < holder {
+            return false;
+        }
+        ticks == 0
+    }
+
+    pub fn survey(self) -> Survey
+        ensures { λ r. ⌜ told.Surveyed self r ⌝ }
+    {
+        let total = self.total;
+        let sum = self.sum;
+        let limit = self.limit;
+        let holder = self.holder;
+        if MAX_TOTAL < total {
+            return UNSOUND;
+        }
+        let steps = rows::STEPS;
+        let mut seen = UNSEEN;
+        let mut i: usize = 0;
+        while i < 64 {
+            let row = self.rows[i];
+            let seeing = look_at(row, &steps, total, sum);
+            seen = seen_next(seen, i as u64, seeing);
+            i += 1;
+        }
+        if !whole(seen, total, sum, limit) {
+            return UNSOUND;
+        }
+        let at = place(holder);
+        let held = self.rows[at];
+        Survey {
+            sound: self.slice_orderly(held),
+            queue: seen.queue,
+            deadline: seen.deadline,
+            left: seen.left,
+            going: seen.going,
+        }
     }
 }

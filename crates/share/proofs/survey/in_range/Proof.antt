@@ -29,7 +29,8 @@ returns-2 c =
     (record {
       weight-low = within-low 1 maxWeight (a .weight) within;
       weight-high = within-high 1 maxWeight (a .weight) within;
-      position-high = leb-true (a .position) ceiling e }))
+      position-high = leb-true (a .position) ceiling e;
+    }))
     (λ e. le-leb (a .position) ceiling (in-range (a .weight) (a .position) e .position-high))
 
 pub in-range-spec : {M : Type 1} → statement M

@@ -40,11 +40,12 @@ mul-t9 c = omega (arith, moment-fits (ranged (c .before .before)))
 deadline-seen-requires : tie.Need-deadline-seen-requires
 unfolding positionOf
 deadline-seen-requires c κs =
-    let h = orderly c in
-    (omega (arith, h .stands, ranged (c .before .before) .position-high)
-    , h .length-high
-    , c .before .before .before .before .pre .0
-    , c .before .before .before .before .pre .1)
+    let h = orderly c in (
+      omega (arith, h .stands, ranged (c .before .before) .position-high),
+      h .length-high,
+      c .before .before .before .before .pre .0,
+      c .before .before .before .before .pre .1,
+    )
 
 sub-t11 : tie.Need-sub-t11
 sub-t11 c = omega (arith, orderly (c .before .before) .served-less)

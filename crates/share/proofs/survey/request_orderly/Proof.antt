@@ -54,11 +54,12 @@ length-in : (c : tie.Else4) → let a = c .before .before .before .before .befor
 length-in c =
     let a = c .before .before .before .before .before .before .args in
     let one = sym (c .before .before .before .before .before .outside .ensures) ∙ c .before .before .before .before .if1 .left in
-    let two = sym (c .before .before .before .outside2 .ensures) ∙ c .before .before .if2 .left in
-    (within-low 1 maxLength (a .q .length) one
-    , within-high 1 maxLength (a .q .length) one
-    , within-low 1 maxLength (a .q .next) two
-    , within-high 1 maxLength (a .q .next) two)
+    let two = sym (c .before .before .before .outside2 .ensures) ∙ c .before .before .if2 .left in (
+      within-low 1 maxLength (a .q .length) one,
+      within-high 1 maxLength (a .q .length) one,
+      within-low 1 maxLength (a .q .next) two,
+      within-high 1 maxLength (a .q .next) two,
+    )
 
 travels : (c : tie.Else4) → let a = c .before .before .before .before .before .before .args in a .q .served * a .step ≤ maxLength * unit
 travels c =
@@ -87,7 +88,8 @@ returns-5 c =
       next-low = range .2;
       next-high = range .3;
       served-less = c .before .if3 .left;
-      stands = sym (eqb-true _ _ e) }))
+      stands = sym (eqb-true _ _ e);
+    }))
     (λ e. eq-eqb _ _ (sym (orderly-request (a .weight) (a .position) (a .q) e .stands))))
 
 pub request-orderly-spec : {M : Type 1} → statement M
