@@ -10,3 +10,4 @@ pub mod Refusals
 pub mod Calls
 pub mod Runs
 pub mod Survey
+pub mod Verdict
