@@ -34,11 +34,11 @@ once : (A W A' W' w p : ℕ) → A' + w * p ≡ A → W' + w ≡ W → A' * W + 
 once A W A' W' w p a b = rw (← a, ← b) (omega arith)
 
 module _ (t : Table) (i : ℕ) (sums : TrueSums t) (inside : i < length (t .rows)) where
-  weight-within : weightIn (row t i) ≤ t .total
+  pub weight-within : weightIn (row t i) ≤ t .total
   unfolding row trueTotal
   weight-within = omega (arith, sums .total-true, sum-at weightIn (t .rows) i blank inside)
 
-  moment-within : momentIn (row t i) ≤ t .sum
+  pub moment-within : momentIn (row t i) ≤ t .sum
   unfolding row trueSum
   moment-within = omega (arith, sums .sum-true, sum-at momentIn (t .rows) i blank inside)
 

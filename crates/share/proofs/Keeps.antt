@@ -57,7 +57,7 @@ pub freed-keeps : (t : Table) (i : ℕ) → t .out ≡ false → Orderly t → i
 unfolding freed
 freed-keeps t i still h inside = placed-keeps t i blank still h inside (refl, refl)
 
-still-freed : (t : Table) (i : ℕ) → freed t i .out ≡ t .out
+pub still-freed : (t : Table) (i : ℕ) → freed t i .out ≡ t .out
 unfolding freed placed
 still-freed t i = refl
 

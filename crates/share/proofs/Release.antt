@@ -11,16 +11,18 @@ use native.Mathlib.Nat.{add-zero, zero-add, sub-right-comm}
 use native.Mathlib.Omega.{arith}
 use lib.ListN.{length, getD, set}
 use lib.Seq.{set-comm}
+use borrow.Author.Tests.{leb-true, le-leb}
 use Rattle.laws.specs.Lists.{sumOf, firstFrom}
 use Rattle.laws.proofs.First.{Passes, first-none, first-some}
 use Rattle.laws.proofs.Means.{still-reached}
 use Rattle.laws.proofs.Sums.{sum-set, sum-bound}
-use Rattle.laws.proofs.Tests.{clash, le-or-lt}
+use Rattle.laws.proofs.Tests.{clash, le-or-lt, and-left, and-right, and-both}
 use Rattle.rows.specs.declared.Row.{Row}
 use Rattle.rows.specs.declared.State.{State}
 use Rattle.rows.specs.declared.State.the-variants.{Free, Going, Asking}
 use Rattle.rows.specs.Row.{blank, isFree, isGoing, weightIn, momentIn}
 use Rattle.share.specs.declared.Table.{Table}
+use Rattle.share.specs.Asks.{readyBy}
 use Rattle.share.specs.Table.{row, AtMostV, placed}
 use Rattle.share.specs.Sound.{Ready, ready, Calm}
 use Rattle.share.specs.Release.{freed, Frees, done, one, freeing, released}
@@ -105,7 +107,7 @@ first-then {t} {u} i j ri rj rest again (no apart) =
     one {u = u} j (stays-ready t i j ri rj apart)
     (rw (commute t i j apart) (again (stays-ready t j i rj ri (λ e. apart (sym e)))))
 
-any-first : {t u : Table} (i : ℕ) → Ready t i → Frees t u → Frees (freed t i) u
+pub any-first : {t u : Table} (i : ℕ) → Ready t i → Frees t u → Frees (freed t i) u
 any-first i r (done calm) = absurd (calm i r)
 any-first i r (one j rj rest) = first-then i j r rj rest (λ ready′. any-first i ready′ rest) (ℕ-discrete j i)
 
@@ -118,7 +120,7 @@ same-end (one i r rest) way = same-end rest (any-first i r way)
 goes : Row → ℕ
 goes r = cond (isGoing (r .state)) 1 0
 
-goers : Table → ℕ
+pub goers : Table → ℕ
 goers t = sumOf goes (t .rows)
 
 goes-most : (b : Bool) → cond b 1 0 ≤ 1
@@ -133,7 +135,7 @@ pub ready-inside : (t : Table) (i : ℕ) → Ready t i → i < length (t .rows)
 ready-inside t i r =
     ⊎-elim (λ past. absurd (clash (r .going) (ap (λ (x : Row). isGoing (x .state)) (row-past t i past)))) (λ l. l) (le-or-lt (length (t .rows)) i)
 
-goers-fall : (t : Table) (i : ℕ) → Ready t i → goers (freed t i) + 1 ≡ goers t
+pub goers-fall : (t : Table) (i : ℕ) → Ready t i → goers (freed t i) + 1 ≡ goers t
 unfolding goers goes freed placed row
 goers-fall t i r =
     omega (arith, sum-set goes (t .rows) i blank blank (ready-inside t i r), ap {B = ℕ} (λ (b : Bool). cond b 1 0) (r .going))
@@ -165,3 +167,15 @@ released-frees t = freeing-frees (length (t .rows)) t (goers-most t)
 
 pub frees-released : {t u : Table} → Frees t u → u ≡ released t
 frees-released {t} way = same-end way (released-frees t)
+
+-- the test with W and A by themselves
+pub ready-by : (t : Table) (i : ℕ) → readyBy (t .total) (t .sum) (row t i) ≡ true → Ready t i
+unfolding readyBy
+ready-by t i e =
+    record {
+      going = and-left _ _ e;
+      level = leb-true (row t i .position * t .total) (t .sum) (and-right (isGoing (row t i .state)) _ e) }
+
+pub by-ready : (t : Table) (i : ℕ) → Ready t i → readyBy (t .total) (t .sum) (row t i) ≡ true
+unfolding readyBy
+by-ready t i r = and-both (r .going) (le-leb (row t i .position * t .total) (t .sum) (r .level))

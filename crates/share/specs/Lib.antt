@@ -11,3 +11,4 @@ pub mod Calls
 pub mod Runs
 pub mod Survey
 pub mod Verdict
+pub mod Asks

@@ -4,6 +4,7 @@ ghost use Rattle.share.specs.Events.{emptyTable};
 ghost use Rattle.share.specs.Calls.{freshReply, accepted, refused};
 ghost use Rattle.share.specs.Refusals as checks;
 
+mod events;
 mod refuse;
 mod survey;
 

@@ -202,7 +202,7 @@ pub fn look_at(row: Row, steps: &[u64; 16], total: u64, sum: u64) -> Look
     }
 }
 
-fn lesser(a: u64, b: u64) -> u64
+pub fn lesser(a: u64, b: u64) -> u64
     ensures { λ r. ⌜ r ≡ min a b ⌝ }
 {
     if a < b {

@@ -1,0 +1,16 @@
+-- `moment`: of an orderly row, a free one too, the product is its part in A.
+use mathlib.Core.Path.{sym}
+use native.Mathlib.Omega.{arith}
+use borrow.Author.Needs.{needs}
+use Rattle.share.proofs.Shares.{orderly-moment, moment-small}
+use Rattle.share.proofs.events.moment.Statement.{statement}
+use Rattle.share.proofs.events.moment.Tie as tie
+
+mul-result : tie.Need-mul-result
+mul-result c = omega (arith, moment-small (c .before .args .row) (c .before .pre))
+
+returns : tie.Need-returns
+returns c = sym (orderly-moment (c .before .args .row) (c .before .pre))
+
+pub moment-spec : {M : Type 1} → statement M
+moment-spec = tie.close (tie.spec mul-result returns)

@@ -1,0 +1,151 @@
+// What an accepted event does to a sound table. Nothing is refused here: each function asks for what the refusals have settled.
+ghost use mathlib.Core.Path.{_≡_};
+ghost use Rattle.rows.specs.Numbers.{lengthMeant};
+ghost use Prim.Native.Nat.{_+_, _-_};
+ghost use Rattle.rows.specs.Row as rows;
+ghost use Rattle.share.specs.Asks as asks;
+ghost use Rattle.share.specs.Events as events;
+ghost use Rattle.share.specs.Release as release;
+ghost use Rattle.share.specs.Table as table;
+
+use crate::survey::lesser;
+use crate::Table;
+use rows::Request;
+use rows::Row;
+use rows::State;
+
+const BLANK: Row = Row {
+    weight: 0,
+    position: 0,
+    state: State::Free,
+};
+
+// A length of 0 stands for the house default.
+fn length_meant(length: u64) -> u64
+    ensures { λ r. ⌜ r ≡ lengthMeant length ⌝ }
+{
+    if length == 0 {
+        return Table::DEFAULT_LENGTH;
+    }
+    length
+}
+
+// A request that opens where its queue stands.
+fn opened(position: u64, length: u64) -> Request
+    ensures { λ r. ⌜ r ≡ events.opened position length ⌝ }
+{
+    Request {
+        opening: position,
+        length,
+        served: 0,
+        next: length,
+    }
+}
+
+// A row's part in A.
+fn moment(row: Row) -> u64
+    requires { ⌜ asks.OrderlyRow row ⌝ }
+    ensures { λ r. ⌜ r ≡ rows.momentIn row ⌝ }
+{
+    row.weight * row.position
+}
+
+fn exchanged(sum: u64, out: u64, into: u64) -> u64
+    requires { ⌜ asks.Exchanging sum out into ⌝ }
+    ensures { λ r. ⌜ r ≡ sum + into - out ⌝ }
+{
+    sum + into - out
+}
+
+impl Table {
+    // V has reached this position: position <= A / W, by the cross product.
+    fn has_reached(self, position: u64) -> bool
+        requires { ⌜ asks.Near self position ⌝ }
+        ensures { λ r. ⌜ r ≡ table.reached self position ⌝ }
+    {
+        position * self.total <= self.sum
+    }
+
+    // A row in another's place: the old row's share leaves W and A, the new row's enters.
+    fn placed(self, queue: u64, row: Row) -> Table
+        requires { ⌜ asks.Placing self queue row ⌝ }
+        ensures { λ r. ⌜ r ≡ table.placed self queue row ⌝ }
+    {
+        let at = queue as usize;
+        let old = self.rows[at];
+        let mut t = self;
+        t.rows[at] = row;
+        t.total = exchanged(self.total, old.weight, row.weight);
+        t.sum = exchanged(self.sum, moment(old), moment(row));
+        t
+    }
+
+    // The lowest going row that V has reached, or 64.
+    fn first_ready(self) -> usize
+        requires { ⌜ asks.Releasing self ⌝ }
+        ensures { λ r. ⌜ asks.FirstReady self r ⌝ }
+    {
+        let total = self.total;
+        let sum = self.sum;
+        let mut i: usize = 0;
+        while i < 64 {
+            let row = self.rows[i];
+            if is_ready(row, total, sum) {
+                return i;
+            }
+            i += 1;
+        }
+        64
+    }
+
+    // Going rows that V has reached are freed until there is none; freeing one may make another ready.
+    fn released(self) -> Table
+        requires { ⌜ asks.Releasing self ⌝ }
+        ensures { λ r. ⌜ r ≡ release.released self ⌝ }
+    {
+        let mut t = self;
+        let mut i = t.first_ready();
+        while i < 64 {
+            t = t.placed(i as u64, BLANK);
+            i = t.first_ready();
+        }
+        t
+    }
+
+    // The release that ends an event. No going row stands before `going`: where V has not reached even that, there is nothing to free.
+    fn settled(self, going: u64) -> Table
+        requires { ⌜ asks.Settling self going ⌝ }
+        ensures { λ r. ⌜ r ≡ release.released self ⌝ }
+    {
+        if self.sum < going * self.total {
+            return self;
+        }
+        self.released()
+    }
+
+    // The least whole number not below V = A / W, or 0 if the table is empty.
+    fn entry(self) -> u64
+        requires { ⌜ asks.Orderly self ⌝ }
+        ensures { λ r. ⌜ r ≡ events.entry self ⌝ }
+    {
+        let total = self.total;
+        let sum = self.sum;
+        if total == 0 {
+            return 0;
+        }
+        (sum + (total - 1)) / total
+    }
+}
+
+fn is_ready(row: Row, total: u64, sum: u64) -> bool
+    requires { ⌜ asks.RowNear row total ⌝ }
+    ensures { λ r. ⌜ r ≡ asks.readyBy total sum row ⌝ }
+{
+    let position = row.position;
+    let state = row.state;
+    match state {
+        State::Free => false,
+        State::Going => position * total <= sum,
+        State::Asking(_) => false,
+    }
+}
