@@ -19,6 +19,7 @@ use Rattle.share.specs.Choice.{deadline}
 use Rattle.share.specs.Events.{chosen}
 use Rattle.share.specs.Refusals.{Check, _when_, firstOf, unsound, queueOutside, outside, lengthOutside, notHolder, rowTaken, notAsking, lagBelow, ceilingPassed, freshChecks, joinChecks, leaveChecks, reweightChecks, lengthChecks, grantChecks, returnChecks}
 use Rattle.share.specs.Calls.{call, refused}
+pub use Rattle.share.specs.Asks.{Joins, Leaves, Reweights, Lengthens, Grants, Returns}
 use Rattle.share.proofs.Calls.{call-refused, call-accepted}
 use Rattle.share.proofs.Refusals.{head-none}
 use Rattle.share.proofs.Sound.{sound-says}
@@ -70,15 +71,6 @@ is-short : (length : ℕ) → lengthOutside length ≡ false → length ≤ maxL
 unfolding lengthOutside
 is-short length e = ltb-false maxLength length e
 
-pub record Joins (t : Table) (queue weight length : ℕ) : Type 0 where
-  pub was-sound : Sound t
-  pub inside : queue < queues
-  pub weight-low : 1 ≤ weight
-  pub weight-high : weight ≤ maxWeight
-  pub length-high : length ≤ maxLength
-  pub still : t .out ≡ false
-  pub free : isFree (row t queue .state) ≡ true
-
 pub join-accepted : (t : Table) (queue weight length : ℕ) → firstOf (joinChecks t queue weight length) ≡ none → Joins t queue weight length
 unfolding joinChecks rowTaken
 join-accepted t queue weight length e =
@@ -93,12 +85,6 @@ join-accepted t queue weight length e =
       free = not-false _ (h .1 .1 .1 .1 .1 .0);
     }
 
-pub record Leaves (t : Table) (queue : ℕ) : Type 0 where
-  pub was-sound : Sound t
-  pub inside : queue < queues
-  pub still : t .out ≡ false
-  pub asks : isAsking (row t queue .state) ≡ true
-
 pub leave-accepted : (t : Table) (queue : ℕ) → firstOf (leaveChecks t queue) ≡ none → Leaves t queue
 unfolding leaveChecks notAsking
 leave-accepted t queue e =
@@ -109,13 +95,6 @@ leave-accepted t queue e =
       still = h .1 .1 .0;
       asks = not-false _ (h .1 .1 .1 .0);
     }
-
-pub record Reweights (t : Table) (queue weight length : ℕ) : Type 0 where
-  pub leaves : Leaves t queue
-  pub weight-low : 1 ≤ weight
-  pub weight-high : weight ≤ maxWeight
-  pub length-high : length ≤ maxLength
-  pub owed : AtMostV t (row t queue .position)
 
 pub reweight-accepted : (t : Table) (queue weight length : ℕ) → firstOf (reweightChecks t queue weight length) ≡ none → Reweights t queue weight length
 unfolding reweightChecks notAsking lagBelow
@@ -135,10 +114,6 @@ reweight-accepted t queue weight length e =
       owed = reached-yes t (row t queue .position) (not-false _ (h .1 .1 .1 .1 .1 .1 .0));
     }
 
-pub record Lengthens (t : Table) (queue length : ℕ) : Type 0 where
-  pub leaves : Leaves t queue
-  pub length-high : length ≤ maxLength
-
 pub length-accepted : (t : Table) (queue length : ℕ) → firstOf (lengthChecks t queue length) ≡ none → Lengthens t queue length
 unfolding lengthChecks notAsking
 length-accepted t queue length e =
@@ -154,12 +129,6 @@ length-accepted t queue length e =
       length-high = is-short length (h .1 .1 .0);
     }
 
-pub record Grants (t : Table) : Type 0 where
-  pub was-sound : Sound t
-  pub still : t .out ≡ false
-  pub present : 0 < t .total
-  pub deadline-high : deadline (row t (chosen t)) ≤ ceiling
-
 above-none : (n : ℕ) → eqb n 0 ≡ false → 0 < n
 above-none n e = let h = eqb-false n 0 e in omega arith
 
@@ -173,13 +142,6 @@ grant-accepted t e =
       present = above-none (t .total) (h .1 .1 .0);
       deadline-high = ltb-false ceiling (deadline (row t (chosen t))) (h .1 .1 .1 .0);
     }
-
-pub record Returns (t : Table) (queue used : ℕ) : Type 0 where
-  pub was-sound : Sound t
-  pub inside : queue < queues
-  pub held : t .out ≡ true
-  pub holds : queue ≡ t .holder
-  pub within : used ≤ t .ticks
 
 pub return-accepted : (t : Table) (queue used : ℕ) → firstOf (returnChecks t queue used) ≡ none → Returns t queue used
 unfolding returnChecks notHolder

@@ -23,7 +23,7 @@ use Rattle.share.specs.Table.{row, trueTotal, trueSum, AtMostV, reached,
 use Rattle.share.specs.Sound.{InRange, OrderlyAs, OrderlyRow, sliceFor, OrderlyHolder, HeldBy, OrderlySlice, Orderly, Ready, Calm, Sound}
 use Rattle.share.specs.Release.{freed, Frees, done, one, released}
 use Rattle.share.specs.Choice.{eligibleAs, eligible, deadlineAs, deadline, choice, Chosen}
-use Rattle.share.specs.Events.{emptyTable, entry, entering, joined, leaving, left, reweighted, nextSet, lengthSet, sliceAs, chosenOr0, chosen, sliceGiven, granted, charged, returned}
+use Rattle.share.specs.Events.{emptyTable, entry, entering, joined, leaving, left, reweighted, nextSet, rowNextSet, lengthSet, sliceAs, chosenOr0, chosen, sliceGiven, granted, charged, returned}
 use Rattle.share.specs.Refusals.{firstOf, freshChecks, joinChecks, leaveChecks, reweightChecks, lengthChecks, grantChecks, returnChecks}
 use Rattle.share.specs.Calls.{call, accepted, joinReply, leaveReply, reweightReply, lengthReply, grantReply, returnReply}
 use Rattle.share.specs.Runs.{step, run}
@@ -125,7 +125,7 @@ asking-stays Going e = absurd (clash e refl)
 asking-stays (Asking q) e = refl
 
 pub length-sound : (t : Table) (queue length : ℕ) → Lengthens t queue length → Sound (lengthSet t queue length)
-unfolding lengthSet weightIn momentIn
+unfolding lengthSet rowNextSet weightIn momentIn
 length-sound t queue length l =
     let s = l .leaves .was-sound in
     let o = s .orderly-table in

@@ -174,7 +174,8 @@ unfolding readyBy
 ready-by t i e =
     record {
       going = and-left _ _ e;
-      level = leb-true (row t i .position * t .total) (t .sum) (and-right (isGoing (row t i .state)) _ e) }
+      level = leb-true (row t i .position * t .total) (t .sum) (and-right (isGoing (row t i .state)) _ e);
+    }
 
 pub by-ready : (t : Table) (i : ℕ) → Ready t i → readyBy (t .total) (t .sum) (row t i) ≡ true
 unfolding readyBy

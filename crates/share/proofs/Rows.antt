@@ -17,7 +17,7 @@ use Rattle.rows.specs.Row.{blank, isAsking, positionOf, deadlineOf, chargedTo}
 use Rattle.share.specs.declared.Table.{Table}
 use Rattle.share.specs.Table.{reached}
 use Rattle.share.specs.Sound.{InRange, OrderlyRequest, OrderlyAs, OrderlyRow}
-use Rattle.share.specs.Events.{opened, entering, leaving, nextSet, served, charged}
+use Rattle.share.specs.Events.{opened, entering, leaving, nextSet, servedTo, served, charged}
 
 -- "a length of 0 in a call stands for the house default of 20": whatever a call may give, a request's length is in range
 pub meant-low : (length : ℕ) → 1 ≤ lengthMeant length
@@ -46,7 +46,7 @@ pub entering-orderly : (w p length : ℕ) → InRange w p → length ≤ maxLeng
 unfolding entering
 entering-orderly w p length range high = (range, opened-orderly w p (lengthMeant length) (meant-low length) (meant-high length high))
 
-asking-range : (s : State) (w p : ℕ) → isAsking s ≡ true → OrderlyAs s w p → InRange w p
+pub asking-range : (s : State) (w p : ℕ) → isAsking s ≡ true → OrderlyAs s w p → InRange w p
 asking-range Free w p e h = absurd (clash e refl)
 asking-range Going w p e h = h
 asking-range (Asking q) w p e h = h .0
@@ -98,15 +98,17 @@ going-on w p used q h less =
       stands = omega (arith, h .stands);
     }
 
-served-orderly : (w p used : ℕ) (early : Bool) (q : Request) → InRange w p → OrderlyRequest w p q → chargedTo w p used ≤ ceiling → OrderlyAs (served (Asking q) (chargedTo w p used) used early) w (chargedTo w p used)
-served-orderly w p used early q range h high = by (early || leb (q .length) (q .served + used)) refl
+served-request : (w p used : ℕ) (early : Bool) (q : Request) → OrderlyRequest w p q → OrderlyRequest w (chargedTo w p used) (servedTo q (chargedTo w p used) used early)
+unfolding servedTo
+served-request w p used early q h = by (early || leb (q .length) (q .served + used)) refl
   where
-    moved : InRange w (chargedTo w p used)
-    moved = record { weight-low = range .weight-low; weight-high = range .weight-high; position-high = high }
+    by : (b : Bool) → (early || leb (q .length) (q .served + used)) ≡ b → OrderlyRequest w (chargedTo w p used) (cond b (opened (chargedTo w p used) (q .next)) (record { opening = q .opening; length = q .length; served = q .served + used; next = q .next }))
+    by true e = opened-orderly w (chargedTo w p used) (q .next) (h .next-low) (h .next-high)
+    by false e = going-on w p used q h (leb-false (q .length) (q .served + used) (later-in early _ e))
 
-    by : (b : Bool) → (early || leb (q .length) (q .served + used)) ≡ b → OrderlyAs (cond b (Asking (opened (chargedTo w p used) (q .next))) (Asking (record { opening = q .opening; length = q .length; served = q .served + used; next = q .next }))) w (chargedTo w p used)
-    by true e = (moved, opened-orderly w (chargedTo w p used) (q .next) (h .next-low) (h .next-high))
-    by false e = (moved, going-on w p used q h (leb-false (q .length) (q .served + used) (later-in early _ e)))
+served-orderly : (w p used : ℕ) (early : Bool) (q : Request) → InRange w p → OrderlyRequest w p q → chargedTo w p used ≤ ceiling → OrderlyAs (served (Asking q) (chargedTo w p used) used early) w (chargedTo w p used)
+served-orderly w p used early q range h high =
+    (record { weight-low = range .weight-low; weight-high = range .weight-high; position-high = high }, served-request w p used early q h)
 
 pub charged-orderly : (r : Row) (q : Request) (used : ℕ) (early : Bool) → r .state ≡ Asking q → OrderlyRow r → chargedTo (r .weight) (r .position) used ≤ ceiling → OrderlyRow (charged r used early)
 unfolding charged

@@ -32,7 +32,8 @@ share-of Free w p h =
       weight-is = sym (h .0);
       moment-is = rw (h .0) (omega arith);
       weight-most = omega (arith, h .0);
-      position-most = omega (arith, h .1) }
+      position-most = omega (arith, h .1);
+    }
 share-of Going w p h = record { weight-is = refl; moment-is = refl; weight-most = h .weight-high; position-most = h .position-high }
 share-of (Asking q) w p h = record { weight-is = refl; moment-is = refl; weight-most = h .0 .weight-high; position-most = h .0 .position-high }
 
@@ -69,10 +70,12 @@ module _ (t : Table) (queue : ℕ) (r : Row) (p : Placing t queue r) where
   exchange-weights =
       record {
         has-it = omega (arith, weight-within t queue (sums-true (p .orderly)) inside-rows, orderly-weight (row t queue) (p .orderly .each queue));
-        fits = omega (arith, total-most t (p .orderly), weight-small r (p .new)) }
+        fits = omega (arith, total-most t (p .orderly), weight-small r (p .new));
+      }
 
   pub exchange-moments : Exchanging (t .sum) (momentIn (row t queue)) (momentIn r)
   exchange-moments =
       record {
         has-it = moment-within t queue (sums-true (p .orderly)) inside-rows;
-        fits = omega (arith, sum-most t (p .orderly), moment-small r (p .new), orderly-moment r (p .new)) }
+        fits = omega (arith, sum-most t (p .orderly), moment-small r (p .new), orderly-moment r (p .new));
+      }

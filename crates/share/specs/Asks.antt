@@ -4,12 +4,21 @@ use mathlib.Core.Bool.{Bool, true, false, _&&_}
 use Prim.Native.Nat.{ℕ, _+_, _*_, _^_, _≤_, _<_}
 use lib.Dec.{leb}
 use Rattle.rows.specs.declared.Row.{Row}
-use Rattle.rows.specs.Numbers.{queues, ceiling}
-use Rattle.rows.specs.Row.{isGoing}
+use Rattle.rows.specs.declared.State.{State}
+use Rattle.rows.specs.declared.State.the-variants.{Free, Going, Asking}
+use Rattle.rows.specs.Numbers.{queues, maxWeight, maxLength, ceiling}
+use Rattle.rows.specs.Row.{isFree, isGoing, isAsking}
 use Rattle.share.specs.declared.Table.{Table}
-use Rattle.share.specs.Table.{row}
-use Rattle.share.specs.Sound.{OrderlyRow as OrderlyTheRow, Orderly as OrderlyTable, Ready, Calm}
+use Rattle.share.specs.Table.{row, AtMostV}
+use Rattle.share.specs.Sound.{OrderlyRow as OrderlyTheRow, Orderly as OrderlyTable, Ready, Calm, Sound}
+use Rattle.share.specs.Choice.{deadline}
+use Rattle.share.specs.Events.{chosen}
 use Rattle.share.specs.Survey.{beyond}
+
+abbrev pub servedAs : State → ℕ
+servedAs Free = 0
+servedAs Going = 0
+servedAs (Asking q) = q .served
 
 -- products of a position and W fit
 pub record Near (t : Table) (position : ℕ) : Type 0 where
@@ -49,8 +58,57 @@ pub record FirstReady (t : Table) (i : ℕ) : Type 0 where
   pub done : 64 ≤ i → Calm t
 
 -- no going row stands before this position
+pub record Ahead (t : Table) (going : ℕ) : Type 0 where
+  pub going-high : going ≤ beyond
+  pub before : (i : ℕ) → isGoing (row t i .state) ≡ true → going ≤ row t i .position
+
 pub record Settling (t : Table) (going : ℕ) : Type 0 where
   pub orderly : OrderlyTable t
   pub still : t .out ≡ false
-  pub going-high : going ≤ beyond
-  pub before : (i : ℕ) → isGoing (row t i .state) ≡ true → going ≤ row t i .position
+  pub ahead : Ahead t going
+
+-- what an accepted call may rest on
+pub record Joins (t : Table) (queue weight length : ℕ) : Type 0 where
+  pub was-sound : Sound t
+  pub inside : queue < queues
+  pub weight-low : 1 ≤ weight
+  pub weight-high : weight ≤ maxWeight
+  pub length-high : length ≤ maxLength
+  pub still : t .out ≡ false
+  pub free : isFree (row t queue .state) ≡ true
+
+pub record Leaves (t : Table) (queue : ℕ) : Type 0 where
+  pub was-sound : Sound t
+  pub inside : queue < queues
+  pub still : t .out ≡ false
+  pub asks : isAsking (row t queue .state) ≡ true
+
+pub record Reweights (t : Table) (queue weight length : ℕ) : Type 0 where
+  pub leaves : Leaves t queue
+  pub weight-low : 1 ≤ weight
+  pub weight-high : weight ≤ maxWeight
+  pub length-high : length ≤ maxLength
+  pub owed : AtMostV t (row t queue .position)
+
+pub record Lengthens (t : Table) (queue length : ℕ) : Type 0 where
+  pub leaves : Leaves t queue
+  pub length-high : length ≤ maxLength
+
+pub record Grants (t : Table) : Type 0 where
+  pub was-sound : Sound t
+  pub still : t .out ≡ false
+  pub present : 0 < t .total
+  pub deadline-high : deadline (row t (chosen t)) ≤ ceiling
+
+pub record Returns (t : Table) (queue used : ℕ) : Type 0 where
+  pub was-sound : Sound t
+  pub inside : queue < queues
+  pub held : t .out ≡ true
+  pub holds : queue ≡ t .holder
+  pub within : used ≤ t .ticks
+
+-- a row's request, charged with no more ticks than it has left
+pub record Charging (r : Row) (used : ℕ) : Type 0 where
+  pub position-high : r .position ≤ ceiling
+  pub used-high : used ≤ maxLength
+  pub fits : servedAs (r .state) + used < 2 ^ 64

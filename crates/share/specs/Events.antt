@@ -53,10 +53,11 @@ nextSet Free length = Free
 nextSet Going length = Going
 nextSet (Asking q) length = Asking (record { opening = q .opening; length = q .length; served = q .served; next = length })
 
+unfoldable pub rowNextSet : Row → ℕ → Row
+rowNextSet r length = record { weight = r .weight; position = r .position; state = nextSet (r .state) length }
+
 unfoldable pub lengthSet : Table → ℕ → ℕ → Table
-lengthSet t queue length =
-    let r : Row = row t queue in
-    placed t queue (record { weight = r .weight; position = r .position; state = nextSet (r .state) (lengthMeant length) })
+lengthSet t queue length = placed t queue (rowNextSet (row t queue) (lengthMeant length))
 
 -- "Grant. ... The answer is the number and the slice."
 abbrev pub sliceAs : ℕ → State → ℕ
@@ -79,12 +80,15 @@ unfoldable pub granted : Table → Table
 granted t = withSlice t true (chosen t) (sliceGiven t)
 
 -- "Return. ... If the request is used up or ended early, the next opens at the new position (equations 11 and 12)."
+unfoldable pub servedTo : Request → ℕ → ℕ → Bool → Request
+servedTo q position used early =
+    cond (early || leb (q .length) (q .served + used)) (opened position (q .next))
+    (record { opening = q .opening; length = q .length; served = q .served + used; next = q .next })
+
 abbrev pub served : State → ℕ → ℕ → Bool → State
 served Free position used early = Free
 served Going position used early = Going
-served (Asking q) position used early =
-    cond (early || leb (q .length) (q .served + used)) (Asking (opened position (q .next)))
-    (Asking (record { opening = q .opening; length = q .length; served = q .served + used; next = q .next }))
+served (Asking q) position used early = Asking (servedTo q position used early)
 
 -- "Position rises by used x step."
 unfoldable pub charged : Row → ℕ → Bool → Row

@@ -1,15 +1,14 @@
 // What an accepted event does to a sound table. Nothing is refused here: each function asks for what the refusals have settled.
 ghost use mathlib.Core.Path.{_≡_};
 ghost use Rattle.rows.specs.Numbers.{lengthMeant};
-ghost use Prim.Native.Nat.{_+_, _-_};
+ghost use Prim.Native.Nat.{_+_, _-_, _^_, _<_};
 ghost use Rattle.rows.specs.Row as rows;
 ghost use Rattle.share.specs.Asks as asks;
 ghost use Rattle.share.specs.Events as events;
 ghost use Rattle.share.specs.Release as release;
 ghost use Rattle.share.specs.Table as table;
-
-use crate::survey::lesser;
 use crate::Table;
+use crate::survey::lesser;
 use rows::Request;
 use rows::Row;
 use rows::State;
@@ -134,6 +133,147 @@ impl Table {
             return 0;
         }
         (sum + (total - 1)) / total
+    }
+
+    // The row of a queue number; past the last there is none.
+    pub fn row_of(self, queue: u64) -> Row
+        ensures { λ r. ⌜ r ≡ table.row self queue ⌝ }
+    {
+        if Table::QUEUES <= queue {
+            return BLANK;
+        }
+        let at = queue as usize;
+        self.rows[at]
+    }
+
+    pub fn joined(self, queue: u64, weight: u64, length: u64, going: u64) -> Table
+        requires { ⌜ (asks.Joins self queue weight length) × (asks.Ahead self going) ⌝ }
+        ensures { λ r. ⌜ r ≡ events.joined self queue weight length ⌝ }
+    {
+        let position = self.entry();
+        let request = opened(position, length_meant(length));
+        let row = Row {
+            weight,
+            position,
+            state: State::Asking(request),
+        };
+        self.placed(queue, row).settled(going)
+    }
+
+    // Freed if V has reached it; else it goes, with its weight kept in W, and is released when V does.
+    pub fn left(self, queue: u64, going: u64) -> Table
+        requires { ⌜ (asks.Leaves self queue) × (asks.Ahead self going) ⌝ }
+        ensures { λ r. ⌜ r ≡ events.left self queue ⌝ }
+    {
+        let row = self.row_of(queue);
+        let weight = row.weight;
+        let position = row.position;
+        if self.has_reached(position) {
+            return self.placed(queue, BLANK).settled(going);
+        }
+        let gone = Row {
+            weight,
+            position,
+            state: State::Going,
+        };
+        self.placed(queue, gone).settled(lesser(going, position))
+    }
+
+    pub fn length_set(self, queue: u64, length: u64) -> Table
+        requires { ⌜ asks.Lengthens self queue length ⌝ }
+        ensures { λ r. ⌜ r ≡ events.lengthSet self queue length ⌝ }
+    {
+        let row = self.row_of(queue);
+        let meant = length_meant(length);
+        self.placed(queue, next_set(row, meant))
+    }
+
+    pub fn returned(self, queue: u64, used: u64, early: bool, going: u64) -> Table
+        requires { ⌜ (asks.Returns self queue used) × (asks.Ahead self going) ⌝ }
+        ensures { λ r. ⌜ r ≡ events.returned self queue used early ⌝ }
+    {
+        let at = queue as usize;
+        let row = self.rows[at];
+        let mut t = self;
+        t.out = false;
+        t.holder = 0;
+        t.ticks = 0;
+        t.placed(queue, charged(row, used, early)).settled(going)
+    }
+}
+
+fn next_set(row: Row, length: u64) -> Row
+    ensures { λ r. ⌜ r ≡ events.rowNextSet row length ⌝ }
+{
+    let weight = row.weight;
+    let position = row.position;
+    let state = row.state;
+    match state {
+        State::Free => row,
+        State::Going => row,
+        State::Asking(q) => {
+            let request = Request {
+                opening: q.opening,
+                length: q.length,
+                served: q.served,
+                next: length,
+            };
+            Row {
+                weight,
+                position,
+                state: State::Asking(request),
+            }
+        }
+    }
+}
+
+// A request used up or ended early is followed by the next, at the position that the queue has come to.
+fn served(q: Request, position: u64, used: u64, early: bool) -> Request
+    requires { ⌜ q .served + used < 2 ^ 64 ⌝ }
+    ensures { λ r. ⌜ r ≡ events.servedTo q position used early ⌝ }
+{
+    if early {
+        return opened(position, q.next);
+    }
+    let length = q.length;
+    let ticks = q.served + used;
+    if length <= ticks {
+        return opened(position, q.next);
+    }
+    Request {
+        opening: q.opening,
+        length,
+        served: ticks,
+        next: q.next,
+    }
+}
+
+fn charged(row: Row, used: u64, early: bool) -> Row
+    requires { ⌜ asks.Charging row used ⌝ }
+    ensures { λ r. ⌜ r ≡ events.charged row used early ⌝ }
+{
+    let weight = row.weight;
+    let state = row.state;
+    let position = rows::charged(weight, row.position, used);
+    match state {
+        State::Free => Row {
+            weight,
+            position,
+            state: State::Free,
+        },
+        State::Going => Row {
+            weight,
+            position,
+            state: State::Going,
+        },
+        State::Asking(q) => {
+            let request = served(q, position, used, early);
+            Row {
+                weight,
+                position,
+                state: State::Asking(request),
+            }
+        }
     }
 }
 

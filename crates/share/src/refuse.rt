@@ -4,7 +4,6 @@ ghost use Rattle.rows.specs.Numbers.{queues};
 ghost use Rattle.rows.specs.Row as rows;
 ghost use Rattle.share.specs.Refusals as checks;
 ghost use Rattle.share.specs.Verdict.{verdictOf, allChecks};
-
 use crate::Refusal;
 use crate::Table;
 use rows::Row;

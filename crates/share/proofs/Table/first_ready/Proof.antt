@@ -53,13 +53,14 @@ loop-again : tie.Need-loop-again Inv-loop μ-loop
 unfolding row
 loop-again c =
     let t = c .before .before .before .before .before .args .t1 in
-    let head = c .before .before .before .before in
-    (omega arith
-    , λ j h r. ⊎-elim
-      (λ l. let same : j ≡ head .loop .i = omega arith in
-      clash (by-ready t (head .loop .i) (subst (Ready t) same r)) (sym (c .before .is-ready .ensures) ∙ c .if1 .left))
-      (λ l. head .loop .inv .1 j l r)
-      (le-or-lt (head .loop .i) j))
+    let head = c .before .before .before .before in (
+      omega arith,
+      λ j h r. ⊎-elim
+          (λ l. let same : j ≡ head .loop .i = omega arith in
+          clash (by-ready t (head .loop .i) (subst (Ready t) same r)) (sym (c .before .is-ready .ensures) ∙ c .if1 .left))
+          (λ l. head .loop .inv .1 j l r)
+          (le-or-lt (head .loop .i) j),
+    )
 
 returns-2 : tie.Need-returns-2 Inv-loop μ-loop
 returns-2 c =
@@ -67,7 +68,8 @@ returns-2 c =
     let t = start .args .t1 in
     record {
       one = λ h. absurd (omega arith);
-      done = λ h j r. c .before .loop .inv .1 j (omega (arith, ready-inside t j r, start .pre .orderly .one-each, c .loop-test .left)) r }
+      done = λ h j r. c .before .loop .inv .1 j (omega (arith, ready-inside t j r, start .pre .orderly .one-each, c .loop-test .left)) r;
+    }
 
 pub first-ready-spec : {M : Type 1} → statement M
 first-ready-spec =

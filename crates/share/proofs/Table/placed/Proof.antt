@@ -41,9 +41,14 @@ unfolding row placed
 returns c =
     let start = c .before .before .before .before .before in
     let t = start .args .t1 in
-    rw
-    (c .exchanged2 .ensures, c .before .before .moment .ensures, c .before .moment2 .ensures, c .before .before .before .exchanged .ensures,
-    orderly-weight (row t (start .args .queue)) (start .pre .orderly .each (start .args .queue)), orderly-weight (start .args .row) (start .pre .new))
+    rw (
+      c .exchanged2 .ensures,
+      c .before .before .moment .ensures,
+      c .before .moment2 .ensures,
+      c .before .before .before .exchanged .ensures,
+      orderly-weight (row t (start .args .queue)) (start .pre .orderly .each (start .args .queue)),
+      orderly-weight (start .args .row) (start .pre .new),
+    )
 
 pub placed-spec : {M : Type 1} → statement M
 placed-spec =

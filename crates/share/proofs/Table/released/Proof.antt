@@ -52,10 +52,11 @@ loop-less c =
     rw (turned (c .before)) (omega (arith, goers-fall (before .loop .t) (before .loop .i) (ready-now (c .before))))
 
 loop-again : tie.Need-loop-again Inv-loop μ-loop
-loop-again c =
-    (kept (c .before)
-    , c .first-ready2 .ensures
-    , rw (turned (c .before)) (any-first (c .before .before .before .loop .i) (ready-now (c .before)) (c .before .before .before .loop .inv .2)))
+loop-again c = (
+  kept (c .before),
+  c .first-ready2 .ensures,
+  rw (turned (c .before)) (any-first (c .before .before .before .loop .i) (ready-now (c .before)) (c .before .before .before .loop .inv .2)),
+)
 
 returns : tie.Need-returns Inv-loop μ-loop
 returns c = same-end (done (c .before .loop .inv .1 .done (c .loop-test .left))) (c .before .loop .inv .2)

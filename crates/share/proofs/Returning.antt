@@ -1,0 +1,56 @@
+-- The holder's row when its slice comes back: its request can be charged with the ticks used, and the row that comes of it can be placed.
+use mathlib.Core.Path.{_≡_, refl, ap, subst, sym, _∙_}
+use mathlib.Core.Bool.{Bool, true, false}
+use Prim.Native.Nat.{ℕ, _+_, _≤_, _<_}
+use native.Mathlib.Omega.{arith}
+use Rattle.rows.specs.declared.Row.{Row}
+use Rattle.rows.specs.declared.State.{State}
+use Rattle.rows.specs.declared.State.the-variants.{Free, Going, Asking}
+use Rattle.rows.specs.Row.{isGoing, isAsking}
+use Rattle.share.specs.declared.Table.{Table}
+use Rattle.share.specs.Asks.{servedAs, Placing, Ahead, Charging, Returns}
+use Rattle.share.specs.Events.{served, charged}
+use Rattle.share.specs.Sound.{OrderlyAs, sliceFor}
+use Rattle.share.specs.Table.{row, withSlice}
+use Rattle.share.proofs.Kept.{taken-in, holding, slice-within, charge-within}
+use Rattle.share.proofs.Rows.{charged-orderly}
+use Rattle.share.proofs.Shares.{position-small}
+
+module _ (t : Table) (queue used : ℕ) (r : Returns t queue used) where
+  within-limit : (limit ticks : ℕ) (left : ℕ) → ticks ≡ Prim.Native.Nat.min limit left → ticks ≤ limit
+  within-limit limit ticks left e = omega arith
+
+  pub return-charges : Charging (row t queue) used
+  unfolding sliceFor
+  return-charges =
+      let o = r .was-sound .orderly-table in
+      let h = holding t queue used r in
+      let q = h .request in
+      let as-asking : OrderlyAs (Asking q) (row t queue .weight) (row t queue .position) =
+      subst (λ (s : State). OrderlyAs s (row t queue .weight) (row t queue .position)) (h .is-asking) (o .each queue) in
+      let slice = within-limit (t .limit) (t .ticks) _ (h .orderly-holder .lesser) in
+      record {
+        position-high = position-small (row t queue) (o .each queue);
+        used-high = omega (arith, r .within, o .limit-high, slice);
+        fits = omega (arith, r .within, o .limit-high, slice, ap servedAs (h .is-asking), as-asking .1 .served-less, as-asking .1 .length-high);
+      }
+
+  module _ (early : Bool) where
+    pub return-places : Placing (withSlice t false 0 0) queue (charged (row t queue) used early)
+    return-places =
+        let o = r .was-sound .orderly-table in
+        let h = holding t queue used r in
+        record {
+          orderly = taken-in t o;
+          inside = r .inside;
+          new = charged-orderly (row t queue) (h .request) used early (h .is-asking) (o .each queue) (charge-within t queue used r);
+        }
+
+    -- it goes on asking
+    pub return-asks : isGoing (charged (row t queue) used early .state) ≡ false
+    unfolding charged
+    return-asks = rw (holding t queue used r .is-asking) refl
+
+pub slice-ahead : (t : Table) (out : Bool) (holder ticks going : ℕ) → Ahead t going → Ahead (withSlice t out holder ticks) going
+unfolding withSlice row
+slice-ahead t out holder ticks going a = record { going-high = a .going-high; before = a .before }
