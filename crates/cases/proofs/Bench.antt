@@ -12,11 +12,11 @@ use Rattle.share.specs.Release.{freed, released}
 use Rattle.share.specs.Choice.{eligible, deadline, precedes, choice}
 use Rattle.share.specs.Events.{emptyTable, entry, opened, entering, joined, leaving, left, reweighted, rowNextSet, lengthSet, chosen, sliceGiven, granted, servedTo, charged, returned}
 use Rattle.share.specs.Refusals.{unsound, queueOutside, outside, lengthOutside, notHolder, rowTaken, notAsking, lagBelow, ceilingPassed, freshChecks, joinChecks, leaveChecks, reweightChecks, lengthChecks, grantChecks, returnChecks}
-use Rattle.share.specs.Calls.{call, joinReply, leaveReply, reweightReply, lengthReply, grantReply, returnReply}
+use Rattle.share.specs.Calls.{call, renewReply, joinReply, leaveReply, reweightReply, lengthReply, grantReply, returnReply}
 use Rattle.share.specs.Runs.{step}
 use Rattle.cases.specs.Facts.{holds, lineHolds, caseHolds}
 use Rattle.cases.specs.Bench.{loneAt, bench}
 
 pub bench-holds : all caseHolds bench ≡ true
-unfolding every _⊖_ lengthMeant stepOf positionOf deadlineOf chargedTo weightIn momentIn row trueTotal trueSum reached isEmpty placed withSlice inRange orderlyRequest orderlyRow sliceFor orderlyHolder orderly ready calm sound lagOf lagUnit lagsInto freed released eligible deadline precedes choice emptyTable entry opened entering joined leaving left reweighted rowNextSet lengthSet chosen sliceGiven granted servedTo charged returned unsound queueOutside outside lengthOutside notHolder rowTaken notAsking lagBelow ceilingPassed freshChecks joinChecks leaveChecks reweightChecks lengthChecks grantChecks returnChecks call joinReply leaveReply reweightReply lengthReply grantReply returnReply step holds lineHolds caseHolds loneAt
+unfolding every _⊖_ lengthMeant stepOf positionOf deadlineOf chargedTo weightIn momentIn row trueTotal trueSum reached isEmpty placed withSlice inRange orderlyRequest orderlyRow sliceFor orderlyHolder orderly ready calm sound lagOf lagUnit lagsInto freed released eligible deadline precedes choice emptyTable entry opened entering joined leaving left reweighted rowNextSet lengthSet chosen sliceGiven granted servedTo charged returned unsound queueOutside outside lengthOutside notHolder rowTaken notAsking lagBelow ceilingPassed freshChecks joinChecks leaveChecks reweightChecks lengthChecks grantChecks returnChecks call renewReply joinReply leaveReply reweightReply lengthReply grantReply returnReply step holds lineHolds caseHolds loneAt
 bench-holds = refl

@@ -17,11 +17,13 @@ use Rattle.share.specs.Table.{row, AtMostV, reached, isEmpty}
 use Rattle.share.specs.Sound.{Sound, sound}
 use Rattle.share.specs.Choice.{deadline}
 use Rattle.share.specs.Events.{chosen}
-use Rattle.share.specs.Refusals.{Check, _when_, firstOf, unsound, queueOutside, outside, lengthOutside, notHolder, rowTaken, notAsking, lagBelow, ceilingPassed, freshChecks, joinChecks, leaveChecks, reweightChecks, lengthChecks, grantChecks, returnChecks}
+use Rattle.share.specs.Refusals.{Check, _when_, firstOf, unsound, queueOutside, outside, lengthOutside, notHolder, rowTaken, notAsking, lagBelow, ceilingPassed, freshChecks, joinChecks, leaveChecks, releaseChecks, reweightChecks, lengthChecks, grantChecks, returnChecks}
 use Rattle.share.specs.Calls.{call, refused}
 pub use Rattle.share.specs.Asks.{Joins, Leaves, Reweights, Lengthens, Grants, Returns}
 use Rattle.share.proofs.Calls.{call-refused, call-accepted}
 use Rattle.share.proofs.Refusals.{head-none}
+use Rattle.share.specs.Release.{done, released}
+use Rattle.share.proofs.Release.{frees-released}
 use Rattle.share.proofs.Sound.{sound-says}
 use Rattle.share.proofs.Virtual.{reached-yes}
 
@@ -155,3 +157,8 @@ return-accepted t queue used e =
       holds = eqb-true queue (t .holder) (and-right (t .out) (eqb queue (t .holder)) holder);
       within = ltb-false (t .ticks) used (h .1 .1 .1 .0);
     }
+
+-- a sound table has nothing to release
+pub nothing-to-free : (t : Table) → firstOf (releaseChecks t) ≡ none → t ≡ released t
+unfolding releaseChecks
+nothing-to-free t e = frees-released (done (is-sound t (none-fail (releaseChecks t) e .0) .no-one-ready))

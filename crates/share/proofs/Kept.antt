@@ -25,7 +25,7 @@ use Rattle.share.specs.Release.{freed, Frees, done, one, released}
 use Rattle.share.specs.Choice.{eligibleAs, eligible, deadlineAs, deadline, choice, Chosen}
 use Rattle.share.specs.Events.{emptyTable, entry, entering, joined, leaving, left, reweighted, nextSet, rowNextSet, lengthSet, sliceAs, chosenOr0, chosen, sliceGiven, granted, charged, returned}
 use Rattle.share.specs.Refusals.{firstOf, freshChecks, joinChecks, leaveChecks, reweightChecks, lengthChecks, grantChecks, returnChecks}
-use Rattle.share.specs.Calls.{call, accepted, joinReply, leaveReply, reweightReply, lengthReply, grantReply, returnReply}
+use Rattle.share.specs.Calls.{call, accepted, renewReply, joinReply, leaveReply, reweightReply, lengthReply, grantReply, returnReply}
 use Rattle.share.specs.Runs.{step, run}
 use Rattle.share.proofs.Accepted.{call-cases, none-fail, within-low, within-high, Joins, join-accepted, Leaves, leave-accepted, Reweights, reweight-accepted, Lengthens, length-accepted, Grants, grant-accepted, Returns, return-accepted}
 use Rattle.share.proofs.Choice.{choice-chosen}
@@ -264,7 +264,7 @@ empty-sound limit low high =
 
 -- "an accepted event on a sound table gives a sound table", and a refused one gives the table back
 pub step-keeps : (t : Table) (e : Event) → Sound t → Sound (step t e .table)
-unfolding step joinReply leaveReply reweightReply lengthReply grantReply returnReply freshChecks
+unfolding step renewReply joinReply leaveReply reweightReply lengthReply grantReply returnReply freshChecks
 step-keeps t (Fresh limit) h =
     call-cases (λ r. Sound (r .table)) (freshChecks limit) t (accepted (emptyTable limit)) (λ why e. h)
     (λ e. let within = none-fail (freshChecks limit) e .0 in empty-sound limit (within-low 1 maxLimit limit within) (within-high 1 maxLimit limit within))

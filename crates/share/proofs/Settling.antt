@@ -8,17 +8,19 @@ use native.Mathlib.Omega.{arith}
 use lib.ListN.{length}
 use Rattle.laws.proofs.Tests.{clash}
 use Rattle.rows.specs.declared.Row.{Row}
-use Rattle.rows.specs.Row.{isGoing}
+use Rattle.rows.specs.Row.{blank, isGoing}
 use Rattle.share.specs.declared.Table.{Table}
-use Rattle.share.specs.Asks.{Placing, Ahead, Settling}
+use Rattle.share.specs.Asks.{Placing, Ahead, Settling, Leaves}
 use Rattle.share.specs.Release.{freed, Frees, done, one}
 use Rattle.share.specs.Sound.{Ready, Calm}
 use Rattle.share.specs.Survey.{beyond}
-use Rattle.share.specs.Table.{row, placed}
+use Rattle.share.specs.Table.{row, AtMostV, placed}
+use Rattle.share.specs.Events.{leaving, left}
 use Rattle.share.proofs.Keeps.{placed-keeps}
 use Rattle.share.proofs.Kept.{placed-out}
 use Rattle.share.proofs.Placed.{placed-same, placed-other}
-use Rattle.share.proofs.Release.{freed-same, freed-other}
+use Rattle.share.proofs.Release.{freed-same, freed-other, released-frees}
+use Rattle.share.proofs.Virtual.{yes-reached}
 use Rattle.share.proofs.Surveying.{total-most}
 
 module _ (t : Table) (going : ℕ) (s : Settling t going) where
@@ -65,3 +67,12 @@ freed-ahead t i going ahead = record { going-high = ahead .going-high; before = 
 pub frees-ahead : {t u : Table} (going : ℕ) → Frees t u → Ahead t going → Ahead u going
 frees-ahead going (done calm) ahead = ahead
 frees-ahead {t} going (one i r rest) ahead = frees-ahead going rest (freed-ahead t i going ahead)
+
+-- a queue that was freed leaves no going row behind
+pub left-ahead : (t : Table) (queue going : ℕ) → Leaves t queue → AtMostV t (row t queue .position) → Ahead t going → Ahead (left t queue) going
+unfolding left leaving
+left-ahead t queue going l owed ahead =
+    frees-ahead going (released-frees (placed t queue (leaving t (row t queue))))
+    (rw (yes-reached t (row t queue .position) owed)
+    (placed-settling t queue blank going (record { orderly = l .was-sound .orderly-table; inside = l .inside; new = (refl, refl) }) (l .still) ahead
+    (λ g. absurd (clash g refl)) .ahead))

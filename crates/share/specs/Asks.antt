@@ -1,6 +1,6 @@
 -- What the private functions that carry out an event ask for; the calls have it from the refusals that did not apply.
 use mathlib.Core.Path.{_≡_}
-use mathlib.Core.Bool.{Bool, true, false, _&&_}
+use mathlib.Core.Bool.{Bool, true, false, not, _&&_}
 use Prim.Native.Nat.{ℕ, _+_, _*_, _^_, _≤_, _<_}
 use lib.Dec.{leb}
 use Rattle.rows.specs.declared.Row.{Row}
@@ -9,7 +9,7 @@ use Rattle.rows.specs.declared.State.the-variants.{Free, Going, Asking}
 use Rattle.rows.specs.Numbers.{queues, maxWeight, maxLength, ceiling}
 use Rattle.rows.specs.Row.{isFree, isGoing, isAsking}
 use Rattle.share.specs.declared.Table.{Table}
-use Rattle.share.specs.Table.{row, AtMostV}
+use Rattle.share.specs.Table.{row, AtMostV, reached}
 use Rattle.share.specs.Sound.{OrderlyRow as OrderlyTheRow, Orderly as OrderlyTable, Ready, Calm, Sound}
 use Rattle.share.specs.Choice.{deadline}
 use Rattle.share.specs.Events.{chosen}
@@ -24,6 +24,13 @@ servedAs (Asking q) = q .served
 pub record Near (t : Table) (position : ℕ) : Type 0 where
   pub total-high : t .total ≤ 1024
   pub position-high : position ≤ ceiling
+
+-- of a table that may not be sound: nothing is asked, and nothing said
+pub record NearIf (sound : Bool) (t : Table) (position : ℕ) : Type 0 where
+  pub near : sound ≡ true → Near t position
+
+pub record LagTold (sound : Bool) (t : Table) (position : ℕ) (below : Bool) : Type 0 where
+  pub told : sound ≡ true → below ≡ not (reached t position)
 
 pub record RowNear (r : Row) (total : ℕ) : Type 0 where
   pub total-high : total ≤ 1024

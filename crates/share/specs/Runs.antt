@@ -5,13 +5,10 @@ use Rattle.share.specs.declared.Event.{Event}
 use Rattle.share.specs.declared.Event.the-variants.{Fresh, Join, Leave, Reweight, Length, Grant, Return}
 use Rattle.share.specs.declared.Reply.{Reply}
 use Rattle.share.specs.declared.Table.{Table}
-use Rattle.share.specs.Events.{emptyTable}
-use Rattle.share.specs.Refusals.{freshChecks}
-use Rattle.share.specs.Calls.{call, accepted, joinReply, leaveReply, reweightReply, lengthReply, grantReply, returnReply}
+use Rattle.share.specs.Calls.{renewReply, joinReply, leaveReply, reweightReply, lengthReply, grantReply, returnReply}
 
--- "a refused `S` keeps the present table"
 unfoldable pub step : Table → Event → Reply
-step t (Fresh limit) = call (freshChecks limit) t (accepted (emptyTable limit))
+step t (Fresh limit) = renewReply t limit
 step t (Join queue weight length) = joinReply t queue weight length
 step t (Leave queue) = leaveReply t queue
 step t (Reweight queue weight length) = reweightReply t queue weight length

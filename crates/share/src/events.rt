@@ -58,7 +58,7 @@ fn exchanged(sum: u64, out: u64, into: u64) -> u64
 
 impl Table {
     // V has reached this position: position <= A / W, by the cross product.
-    fn has_reached(self, position: u64) -> bool
+    pub fn has_reached(self, position: u64) -> bool
         requires { ⌜ asks.Near self position ⌝ }
         ensures { λ r. ⌜ r ≡ table.reached self position ⌝ }
     {
@@ -177,6 +177,13 @@ impl Table {
             state: State::Going,
         };
         self.placed(queue, gone).settled(lesser(going, position))
+    }
+
+    pub fn reweighted(self, queue: u64, weight: u64, length: u64, going: u64) -> Table
+        requires { ⌜ (asks.Reweights self queue weight length) × (asks.Ahead self going) ⌝ }
+        ensures { λ r. ⌜ r ≡ events.reweighted self queue weight length ⌝ }
+    {
+        self.left(queue, going).joined(queue, weight, length, going)
     }
 
     pub fn length_set(self, queue: u64, length: u64) -> Table

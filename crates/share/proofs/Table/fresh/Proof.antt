@@ -1,12 +1,29 @@
--- `Table::fresh` refuses a limit outside its range with the empty table of limit 1, and makes any other.
-use mathlib.Core.Path.{_≡_, sym, _∙_}
+-- `Table::fresh`: a limit outside its range is refused with the empty table of limit 1, another makes a fresh table.
+use mathlib.Core.Path.{_≡_, ap, _∙_}
 use borrow.Author.Needs.{needs}
-use Rattle.share.proofs.Calls.{fresh-refused, fresh-accepted}
+use Rattle.share.specs.Calls.{accepted, refused, freshReply}
+use Rattle.share.specs.declared.Table.{Table}
+use Rattle.share.specs.Refusals.{firstOf, freshChecks}
+use Rattle.share.specs.Verdict.{verdictOf}
+use Rattle.share.proofs.Verdicts.{verdict-refused, verdict-fine}
 use Rattle.share.proofs.Table.fresh.Statement.{statement}
 use Rattle.share.proofs.Table.fresh.Tie as tie
 
 outside-requires : tie.Need-outside-requires
 outside-requires c κs = search needs
+
+first-requires : tie.Need-first-requires
+first-requires c κs = search needs
+
+tested : (c : tie.After-first) → let a = c .before .before .args in c .first .result ≡ verdictOf (firstOf (freshChecks (a .limit)))
+unfolding freshChecks
+tested c =
+    rw
+    (c .before .outside .ensures)
+    at (c .first .ensures)
+
+enum-known-why : tie.Need-enum-known-why
+enum-known-why c = search needs
 
 empty-requires : tie.Need-empty-requires
 empty-requires c κs = search needs
@@ -14,10 +31,8 @@ empty-requires c κs = search needs
 refused-requires : tie.Need-refused-requires
 refused-requires c κs = search needs
 
-returns : tie.Need-returns
-returns c =
-    rw (c .refused .ensures, c .before .empty .ensures)
-    (sym (fresh-refused _ (sym (c .before .before .before .outside .ensures) ∙ c .before .before .if1 .taken)))
+enum-told : tie.Need-enum-told
+enum-told c = search needs
 
 empty-requires-2 : tie.Need-empty-requires-2
 empty-requires-2 c κs = search needs
@@ -25,12 +40,29 @@ empty-requires-2 c κs = search needs
 accepted-requires : tie.Need-accepted-requires
 accepted-requires c κs = search needs
 
+returns : tie.Need-returns
+unfolding freshReply
+returns c =
+    let first = c .before .before .before .before .before in
+    c .refused .ensures ∙ ap (λ (t : Table). refused t (c .before .before .before .why .given .0 .0)) (c .before .empty .ensures) ∙ verdict-refused _ (first .first .result) (tested first) _ (c .before .before .before .why .given .1) _ _
+
 returns-2 : tie.Need-returns-2
+unfolding freshReply
 returns-2 c =
-    rw (c .accepted .ensures, c .before .empty2 .ensures)
-    (sym (fresh-accepted _ (sym (c .before .before .before .outside .ensures) ∙ c .before .before .if1 .left)))
+    let first = c .before .before .before .before in
+    c .accepted .ensures ∙ ap accepted (c .before .empty2 .ensures) ∙ verdict-fine _ (first .first .result) (tested first) (c .before .before .enum-told .given .1) _ _
 
 pub fresh-spec : {M : Type 1} → statement M
 fresh-spec =
     tie.close
-    (tie.spec outside-requires empty-requires refused-requires returns empty-requires-2 accepted-requires returns-2)
+    (tie.spec
+    outside-requires
+    first-requires
+    enum-known-why
+    empty-requires
+    refused-requires
+    enum-told
+    empty-requires-2
+    accepted-requires
+    returns
+    returns-2)

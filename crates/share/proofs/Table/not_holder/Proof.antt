@@ -1,0 +1,16 @@
+-- `not_holder`: no slice is out, or another queue's number holds it.
+use mathlib.Core.Path.{_≡_, refl}
+use Rattle.share.specs.Refusals.{notHolder}
+use Rattle.share.proofs.Table.not_holder.Statement.{statement}
+use Rattle.share.proofs.Table.not_holder.Tie as tie
+
+returns : tie.Need-returns
+unfolding notHolder
+returns c = rw (c .if1 .taken)
+
+returns-2 : tie.Need-returns-2
+unfolding notHolder
+returns-2 c = rw (c .if1 .left)
+
+pub not-holder-spec : {M : Type 1} → statement M
+not-holder-spec = tie.close (tie.spec returns returns-2)
