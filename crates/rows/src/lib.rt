@@ -17,6 +17,9 @@ pub const MAX_LIMIT: u64 = 100;
 
 pub const CEILING: u64 = 281_474_976_710_656;
 
+// Position units to one unit of virtual time: the least common multiple of 1 to 16.
+pub const UNIT: u64 = 720_720;
+
 // Position units that one tick moves a queue of weight 1 to 16: 720,720 / weight, exact at every entry.
 pub const STEPS: [u64; 16] = [
     720720,

@@ -6,6 +6,8 @@ use mathlib.Core.Option.{Option, none, some}
 use Prim.Native.Nat.{ℕ, _≤_, _<_}
 use native.Mathlib.Omega.{arith}
 use lib.Dec.{leb, ltb, eqb}
+use lib.IntN.{ℤ}
+use lib.ListN.{length}
 use borrow.Author.Tests.{leb-true, leb-false, ltb-false, eqb-true, eqb-false, not-false}
 use Rattle.laws.proofs.Tests.{clash, and-left, and-right}
 use Rattle.rows.specs.Numbers.{queues, maxWeight, maxLength, maxLimit, ceiling}
@@ -17,7 +19,7 @@ use Rattle.share.specs.Table.{row, AtMostV, reached, isEmpty}
 use Rattle.share.specs.Sound.{Sound, sound}
 use Rattle.share.specs.Choice.{deadline}
 use Rattle.share.specs.Events.{chosen}
-use Rattle.share.specs.Refusals.{Check, _when_, firstOf, unsound, queueOutside, outside, lengthOutside, notHolder, rowTaken, notAsking, lagBelow, ceilingPassed, freshChecks, joinChecks, leaveChecks, releaseChecks, reweightChecks, lengthChecks, grantChecks, returnChecks}
+use Rattle.share.specs.Refusals.{Check, _when_, firstOf, unsound, queueOutside, outside, lengthOutside, notHolder, rowTaken, notAsking, lagBelow, ceilingPassed, freshChecks, joinChecks, leaveChecks, releaseChecks, reweightChecks, lengthChecks, grantChecks, returnChecks, lagChecks}
 use Rattle.share.specs.Calls.{call, refused}
 pub use Rattle.share.specs.Asks.{Joins, Leaves, Reweights, Lengthens, Grants, Returns}
 use Rattle.share.proofs.Calls.{call-refused, call-accepted}
@@ -162,3 +164,10 @@ return-accepted t queue used e =
 pub nothing-to-free : (t : Table) → firstOf (releaseChecks t) ≡ none → t ≡ released t
 unfolding releaseChecks
 nothing-to-free t e = frees-released (done (is-sound t (none-fail (releaseChecks t) e .0) .no-one-ready))
+
+-- a lag report has a sound table and a list of 64 entries or more
+pub lags-accepted : (t : Table) (given : List ℤ) → firstOf (lagChecks t given) ≡ none → Sound t × (queues ≤ length given)
+unfolding lagChecks
+lags-accepted t given e =
+    let h = none-fail (lagChecks t given) e in
+    (is-sound t (h .0), ltb-false (length given) queues (h .1 .0))

@@ -4,6 +4,7 @@ use mathlib.Core.List.{List}
 use mathlib.Core.Option.{Option, none, some}
 use Prim.Native.Nat.{ℕ}
 use native.Mathlib.Omega.{arith}
+use lib.IntN.{ℤ}
 use Rattle.share.specs.declared.Refusal.{Refusal}
 use Rattle.share.specs.declared.Reply.{Reply}
 use Rattle.share.specs.declared.refuse.Verdict.{Verdict}
@@ -11,8 +12,9 @@ use Rattle.share.specs.declared.refuse.Verdict.the-variants.{Fine, Refus
 use Rattle.share.specs.declared.survey.Survey.{Survey}
 use Rattle.share.specs.declared.Table.{Table}
 use Rattle.share.specs.Asks.{Ahead}
-use Rattle.share.specs.Calls.{call, refused}
-use Rattle.share.specs.Refusals.{Check, firstOf}
+use Rattle.share.specs.Calls.{call, refused, lagList}
+use Rattle.share.specs.Lag.{lagsInto}
+use Rattle.share.specs.Refusals.{Check, firstOf, lagChecks}
 use Rattle.share.specs.Sound.{Sound}
 use Rattle.share.specs.Survey.{Surveyed}
 use Rattle.share.specs.Verdict.{verdictOf}
@@ -40,3 +42,13 @@ module _ (checks : List Check) (v : Verdict) (tested : v ≡ verdictOf (firstOf 
 -- what the survey of a sound table tells of its going rows
 pub told-ahead : (t : Table) (s : Survey) → Surveyed t s → Sound t → Ahead t (s .going)
 told-ahead t s h is = let told = h .told (says-sound t is) in record { going-high = told .going-high; before = told .going-told }
+
+-- the lent list: untouched by a refusal, and else written
+module _ (t : Table) (given : List ℤ) (v : Verdict) (tested : v ≡ verdictOf (firstOf (lagChecks t given))) where
+  pub list-refused : (why : Refusal) → v ≡ Refused why → given ≡ lagList t given
+  unfolding lagList
+  list-refused why e = rw (refused-some (firstOf (lagChecks t given)) why (sym tested ∙ e)) refl
+
+  pub list-written : v ≡ Fine → lagsInto t given ≡ lagList t given
+  unfolding lagList
+  list-written e = rw (fine-none (firstOf (lagChecks t given)) (sym tested ∙ e)) refl

@@ -114,6 +114,13 @@ pub record Returns (t : Table) (queue used : ℕ) : Type 0 where
   pub holds : queue ≡ t .holder
   pub within : used ≤ t .ticks
 
+-- numbers whose lag fits
+pub record Lagging (weight position total sum : ℕ) : Type 0 where
+  pub weight-high : weight ≤ maxWeight
+  pub position-high : position ≤ ceiling
+  pub total-high : total ≤ 1024
+  pub sum-high : sum ≤ ceiling * 1024
+
 -- a row's request, charged with no more ticks than it has left
 pub record Charging (r : Row) (used : ℕ) : Type 0 where
   pub position-high : r .position ≤ ceiling

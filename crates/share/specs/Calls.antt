@@ -63,8 +63,11 @@ unfoldable pub returnReply : Table → ℕ → ℕ → Bool → Reply
 returnReply t queue used early = call (returnChecks t queue used) t (accepted (returned t queue used early))
 
 -- the lag report hands back its table, and the list beside it
+abbrev pub reportedReply : Table → Reply
+reportedReply t = record { answer = Reported (lagUnit t); table = t }
+
 unfoldable pub lagReply : Table → List ℤ → Reply
-lagReply t given = call (lagChecks t given) t (record { answer = Reported (lagUnit t); table = t })
+lagReply t given = call (lagChecks t given) t (reportedReply t)
 
 unfoldable pub lagList : Table → List ℤ → List ℤ
 lagList t given = unless (firstOf (lagChecks t given)) (λ why. given) (lagsInto t given)

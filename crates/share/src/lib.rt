@@ -1,12 +1,14 @@
 // The share table of one render engine: queues share it by weight, a slice at a time.
 ghost use mathlib.Core.Path.{_≡_};
+ghost use Prim.Native.Nat.{_≤_};
 ghost use Rattle.share.specs.Events.{emptyTable};
-ghost use Rattle.share.specs.Calls.{accepted, freshReply, grantReply, grantedReply, joinReply, lagList, lagReply, leaveReply, lengthReply, refused, releaseReply, renewReply, returnReply, reweightReply};
+ghost use Rattle.share.specs.Calls.{accepted, freshReply, grantReply, grantedReply, joinReply, lagList, lagReply, leaveReply, lengthReply, refused, releaseReply, renewReply, reportedReply, returnReply, reweightReply};
 ghost use Rattle.share.specs.Asks as asks;
 ghost use Rattle.share.specs.Refusals as checks;
 ghost use Rattle.share.specs.Runs.{step};
 
 mod events;
+mod lags;
 mod refuse;
 mod survey;
 
@@ -272,6 +274,26 @@ impl Table {
         }
     }
 
+    // Each row's lag, as the numerator over the common denominator W x 720,720. Entries 64 and up are kept.
+    pub fn lags(self, list: &mut [i64]) -> Reply
+        ensures told { λ r. ⌜ r ≡ lagReply self (now (list .entry)) ⌝ }
+        ensures written { λ r. ⌜ now (list .exit) ≡ lagList self (now (list .entry)) ⌝ }
+    {
+        let seen = self.survey();
+        let reasons = Reasons {
+            unsound: !seen.sound,
+            list_short: list.len() < 64,
+            ..NO_REASON
+        };
+        match reasons.first() {
+            Verdict::Refused(why) => self.refused(why),
+            Verdict::Fine => {
+                self.write_lags(list);
+                self.reported()
+            }
+        }
+    }
+
     // One event of a run: the door for every program. A refused fresh keeps the present table.
     pub fn apply(self, event: Event) -> Reply
         ensures { λ r. ⌜ r ≡ step self event ⌝ }
@@ -329,6 +351,18 @@ impl Table {
             return !self.has_reached(position);
         }
         false
+    }
+
+    fn reported(self) -> Reply
+        requires { ⌜ self .total ≤ 1024 ⌝ }
+        ensures { λ r. ⌜ r ≡ reportedReply self ⌝ }
+    {
+        Reply {
+            answer: Answer::Reported {
+                denominator: self.total * rows::UNIT,
+            },
+            table: self,
+        }
     }
 
     fn granted(self, queue: u64, slice: u64) -> Reply

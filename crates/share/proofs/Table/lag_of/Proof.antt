@@ -1,0 +1,27 @@
+-- `Table::lag_of`: of an orderly row, a free one too, the product form is its lag.
+use mathlib.Core.Path.{_≡_, _∙_}
+use mir.Syntax.{w64}
+use mir.ValLaws.{toZ-ofZ}
+use Rattle.share.proofs.Report.{lag-product}
+use Rattle.share.proofs.Shares.{weight-small, position-small, sum-most}
+use Rattle.share.proofs.Surveying.{total-most}
+use Rattle.share.proofs.Table.lag_of.Statement.{statement}
+use Rattle.share.proofs.Table.lag_of.Tie as tie
+
+lag-by-requires : tie.Need-lag-by-requires
+lag-by-requires c κs =
+    let a = c .args in
+    record {
+      weight-high = weight-small (a .row) (c .pre .1);
+      position-high = position-small (a .row) (c .pre .1);
+      total-high = total-most (a .self) (c .pre .0);
+      sum-high = sum-most (a .self) (c .pre .0);
+    }
+
+returns : tie.Need-returns
+returns c =
+    let a = c .before .args in
+    toZ-ofZ w64 (c .lag-by .result) (record { sfits = c .lag-by .ok }) ∙ c .lag-by .ensures ∙ lag-product (a .self) (a .row) (c .before .pre .1)
+
+pub lag-of-spec : {M : Type 1} → statement M
+lag-of-spec = tie.close (tie.spec lag-by-requires returns)
