@@ -54,11 +54,11 @@ module _ (t : Table) (i : ℕ) where
       (le-or-lt (length (t .rows)) i)
 
   -- what a ready row takes with it
-  ready-weight : Ready t i → weightIn (row t i) ≡ row t i .weight
+  pub ready-weight : Ready t i → weightIn (row t i) ≡ row t i .weight
   unfolding weightIn
   ready-weight r = counted-in (row t i .state) _ (r .going)
 
-  ready-moment : Ready t i → momentIn (row t i) ≡ row t i .weight * row t i .position
+  pub ready-moment : Ready t i → momentIn (row t i) ≡ row t i .weight * row t i .position
   unfolding momentIn
   ready-moment r = counted-in (row t i .state) _ (r .going)
 
