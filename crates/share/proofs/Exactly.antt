@@ -40,10 +40,11 @@ Becomes u j r = (row u j ≡ r) ⊎ ((row u j ≡ blank) × AtMostV u (r .positi
 
 turn : {t u : Table} (i j : ℕ) → Ready t i → Frees (freed t i) u → Becomes u j (row (freed t i) j) → Dec (j ≡ i) → Becomes u j (row t j)
 turn {t} {u} i j r rest later (yes e) =
-    _⊎_.inr
-    (stays-blank j rest (subst⁻¹ (λ (k : ℕ). row (freed t i) k ≡ blank) e (freed-same t i))
-    , frees-level (row t j .position) rest
-      (still-level t i (row t j .position) r (subst⁻¹ (λ (k : ℕ). AtMostV t (row t k .position)) e (r .level))))
+    _⊎_.inr (
+      stays-blank j rest (subst⁻¹ (λ (k : ℕ). row (freed t i) k ≡ blank) e (freed-same t i)),
+      frees-level (row t j .position) rest
+          (still-level t i (row t j .position) r (subst⁻¹ (λ (k : ℕ). AtMostV t (row t k .position)) e (r .level))),
+    )
 turn {t} {u} i j r rest later (no apart) = subst (Becomes u j) (freed-other t i j apart) later
 
 becomes : {t u : Table} (j : ℕ) → Frees t u → Becomes u j (row t j)
@@ -57,9 +58,10 @@ going-not-free (Rattle.rows.specs.declared.State.the-variants.Asking q) g f = c
 
 pub released-exactly : (t : Table) (j : ℕ) → isGoing (row t j .state) ≡ true → (isFree (row (released t) j .state) ≡ true) ↔ AtMostV (released t) (row t j .position)
 released-exactly t j going =
-    let way = released-frees t in
-    (λ free. ⊎-elim (λ stays. absurd (going-not-free (row t j .state) going (subst (λ (x : Row). isFree (x .state) ≡ true) stays free))) (λ out. out .1) (becomes j way)
-    , λ level. ⊎-elim
-      (λ stays. absurd (frees-calm way j (record { going = rw stays going; level = rw stays level })))
-      (λ out. ap (λ (x : Row). isFree (x .state)) (out .0))
-      (becomes j way))
+    let way = released-frees t in (
+      λ free. ⊎-elim (λ stays. absurd (going-not-free (row t j .state) going (subst (λ (x : Row). isFree (x .state) ≡ true) stays free))) (λ out. out .1) (becomes j way),
+      λ level. ⊎-elim
+          (λ stays. absurd (frees-calm way j (record { going = rw stays going; level = rw stays level })))
+          (λ out. ap (λ (x : Row). isFree (x .state)) (out .0))
+          (becomes j way),
+    )

@@ -53,6 +53,7 @@ empty-still t is empty = by (t .out) refl
   where
     o : Rattle.share.specs.Sound.Orderly t
     o = is .orderly-table
+
     by : (b : Bool) → t .out ≡ b → t .out ≡ false
     by false e = e
     by true e =
@@ -91,12 +92,13 @@ never-eleven false false t event zero e = omega arith
 -- "A grant on a sound table is refused for want of a queue exactly when the table is empty."
 pub grant-eleven : (t : Table) → Sound t → (number (grantReply t .answer) ≡ 11) ↔ (t .total ≡ 0)
 unfolding grantReply call
-grant-eleven t is =
-    (λ e. ⊎-elim
-    (λ present. absurd (never-eleven (t .out) (ceilingPassed t) t _ refl (rw (present-checks t is present) at e)))
-    (λ none-there. omega arith)
-    (le-or-lt 1 (t .total))
-    , λ empty. ap (λ (r : Reply). number (r .answer)) (grant-refused-empty t is empty))
+grant-eleven t is = (
+  λ e. ⊎-elim
+      (λ present. absurd (never-eleven (t .out) (ceilingPassed t) t _ refl (rw (present-checks t is present) at e)))
+      (λ none-there. omega arith)
+      (le-or-lt 1 (t .total)),
+  λ empty. ap (λ (r : Reply). number (r .answer)) (grant-refused-empty t is empty),
+)
 
 -- what an accepted grant answers: the row is asking, its opening is at most V, no such row has a lesser deadline and none of the same deadline a
 -- lower number; the slice is the lesser of the limit and what is left of the request; and the deadline is at most P
@@ -126,7 +128,8 @@ granted-rightly t g =
       least = λ j e. least-deadline t (chosen t) j meets e;
       lowest = λ j e same. lowest-number t (chosen t) j meets e same;
       slice-is = ap (sliceAs (t .limit)) (found .1);
-      below-ceiling = g .deadline-high }
+      below-ceiling = g .deadline-high;
+    }
 
 -- a grant that is not refused names such a queue, and only one queue is such
 pub grant-rightly : (t : Table) → firstOf (grantChecks t) ≡ none → (queue slice : ℕ) → grantReply t .answer ≡ Granted queue slice → Rightly t queue slice

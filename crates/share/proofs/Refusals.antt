@@ -160,6 +160,7 @@ not-holder-says t queue = (says (t .out) refl, told)
     says : (b : Bool) → t .out ≡ b → not (t .out && eqb queue (t .holder)) ≡ true → (t .out ≡ false) ⊎ (queue ≢ t .holder)
     says true e h = _⊎_.inr (λ same. clash (and-both e (eq-eqb queue (t .holder) same)) (not-true _ h))
     says false e h = _⊎_.inl e
+
     told : (t .out ≡ false) ⊎ (queue ≢ t .holder) → not (t .out && eqb queue (t .holder)) ≡ true
     told h =
         ap not

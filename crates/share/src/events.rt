@@ -239,13 +239,14 @@ fn served(q: Request, position: u64, used: u64, early: bool) -> Request
     requires { ⌜ q .served + used < 2 ^ 64 ⌝ }
     ensures { λ r. ⌜ r ≡ events.servedTo q position used early ⌝ }
 {
-    if early {
-        return opened(position, q.next);
-    }
+    let following = opened(position, q.next);
     let length = q.length;
     let ticks = q.served + used;
+    if early {
+        return following;
+    }
     if length <= ticks {
-        return opened(position, q.next);
+        return following;
     }
     Request {
         opening: q.opening,
