@@ -1,0 +1,84 @@
+-- Demand 1 on events: a step is refused by the lowest number that applies, with the table as it was given, or is done.
+use mathlib.Core.Path.{_≡_, refl, ap, sym, _∙_}
+use mathlib.Core.Bool.{true}
+use mathlib.Core.List.{List}
+use mathlib.Core.Logic.{_≢_, _↔_}
+use mathlib.Core.Option.{Option, none, some}
+use Prim.Native.Nat.{ℕ, _≤_}
+use native.Mathlib.Omega.{arith}
+use lib.IntN.{ℤ}
+use Rattle.share.specs.declared.Event.{Event}
+use Rattle.share.specs.declared.Event.the-variants.{Fresh, Join, Leave, Reweight, Length, Grant, Return}
+use Rattle.share.specs.declared.Refusal.{Refusal}
+use Rattle.share.specs.declared.Reply.{Reply}
+use Rattle.share.specs.declared.Table.{Table}
+use Rattle.share.specs.Answers.{refusalNumber, number}
+use Rattle.share.specs.Calls.{call, refused, renewReply, joinReply, leaveReply, reweightReply, lengthReply, grantReply, returnReply, reportedReply, lagReply, lagList}
+use Rattle.share.specs.Refusals.{Check, firstOf, lagChecks}
+use Rattle.share.specs.Runs.{step, checksOf, doneBy}
+use Rattle.share.proofs.Calls.{call-refused, call-accepted, Kept, refused-kept}
+use Rattle.share.proofs.Refusals.{Applies, ordered, first-lowest, fresh-ordered, join-ordered, leave-ordered, reweight-ordered, length-ordered, grant-ordered, return-ordered}
+
+pub step-parts : (t : Table) (e : Event) → step t e ≡ call (checksOf t e) t (doneBy t e)
+unfolding step renewReply joinReply leaveReply reweightReply lengthReply grantReply returnReply
+step-parts t (Fresh limit) = refl
+step-parts t (Join queue weight length) = refl
+step-parts t (Leave queue) = refl
+step-parts t (Reweight queue weight length) = refl
+step-parts t (Length queue length) = refl
+step-parts t Grant = refl
+step-parts t (Return queue used early) = refl
+
+pub checks-ordered : (t : Table) (e : Event) → ordered 0 (checksOf t e) ≡ true
+checks-ordered t (Fresh limit) = fresh-ordered limit
+checks-ordered t (Join queue weight length) = join-ordered t queue weight length
+checks-ordered t (Leave queue) = leave-ordered t queue
+checks-ordered t (Reweight queue weight length) = reweight-ordered t queue weight length
+checks-ordered t (Length queue length) = length-ordered t queue length
+checks-ordered t Grant = grant-ordered t
+checks-ordered t (Return queue used early) = return-ordered t queue used
+
+done-accepted : (t : Table) (e : Event) → number (doneBy t e .answer) ≡ 0
+done-accepted t (Fresh limit) = refl
+done-accepted t (Join queue weight length) = refl
+done-accepted t (Leave queue) = refl
+done-accepted t (Reweight queue weight length) = refl
+done-accepted t (Length queue length) = refl
+done-accepted t Grant = refl
+done-accepted t (Return queue used early) = refl
+
+-- refused by its number, the other values 0, the table as given
+pub step-refused : (t : Table) (e : Event) (why : Refusal) → firstOf (checksOf t e) ≡ some why → Kept t (step t e) why
+step-refused t e why h = rw (step-parts t e) (refused-kept (checksOf t e) t (doneBy t e) why h)
+
+-- and where nothing applies it is done
+pub step-done : (t : Table) (e : Event) → firstOf (checksOf t e) ≡ none → step t e ≡ doneBy t e
+step-done t e h = step-parts t e ∙ call-accepted (checksOf t e) t (doneBy t e) h
+
+pub step-lowest : (t : Table) (e : Event) (why other : Refusal) → firstOf (checksOf t e) ≡ some why → Applies other (checksOf t e) → refusalNumber why ≤ refusalNumber other
+step-lowest t e why other h applies = first-lowest 0 why applies (checks-ordered t e) h
+
+-- an answer other than 0 hands the table back
+pub refused-table : (t : Table) (e : Event) → number (step t e .answer) ≢ 0 → step t e .table ≡ t
+refused-table t e h = by (firstOf (checksOf t e)) refl
+  where
+    by : (o : Option Refusal) → firstOf (checksOf t e) ≡ o → step t e .table ≡ t
+    by none is = absurd (h (ap (λ (r : Reply). number (r .answer)) (step-done t e is) ∙ done-accepted t e))
+    by (some why) is = step-refused t e why is .table-same
+
+-- the lag report hands its table back whatever it answers, and with an answer other than 0 leaves the list alone
+pub report-table : (t : Table) (given : List ℤ) → lagReply t given .table ≡ t
+unfolding lagReply
+report-table t given = by (firstOf (lagChecks t given)) refl
+  where
+    by : (o : Option Refusal) → firstOf (lagChecks t given) ≡ o → call (lagChecks t given) t (reportedReply t) .table ≡ t
+    by none is = ap (λ (r : Reply). r .table) (call-accepted (lagChecks t given) t (reportedReply t) is)
+    by (some why) is = ap (λ (r : Reply). r .table) (call-refused (lagChecks t given) t (reportedReply t) why is)
+
+pub refused-list : (t : Table) (given : List ℤ) → number (lagReply t given .answer) ≢ 0 → lagList t given ≡ given
+unfolding lagReply lagList
+refused-list t given h = by (firstOf (lagChecks t given)) refl
+  where
+    by : (o : Option Refusal) → firstOf (lagChecks t given) ≡ o → lagList t given ≡ given
+    by none is = absurd (h (ap (λ (r : Reply). number (r .answer)) (call-accepted (lagChecks t given) t (reportedReply t) is)))
+    by (some why) is = rw (is, lagList) refl
