@@ -58,7 +58,7 @@ fn exchanged(sum: u64, out: u64, into: u64) -> u64
 
 impl Table {
     // V has reached this position: position <= A / W, by the cross product.
-    pub fn has_reached(self, position: u64) -> bool
+    pub(crate) fn has_reached(self, position: u64) -> bool
         requires { ⌜ asks.Near self position ⌝ }
         ensures { λ r. ⌜ r ≡ table.reached self position ⌝ }
     {
@@ -136,7 +136,7 @@ impl Table {
     }
 
     // The row of a queue number; past the last there is none.
-    pub fn row_of(self, queue: u64) -> Row
+    pub(crate) fn row_of(self, queue: u64) -> Row
         ensures { λ r. ⌜ r ≡ table.row self queue ⌝ }
     {
         if Table::QUEUES <= queue {
@@ -146,7 +146,7 @@ impl Table {
         self.rows[at]
     }
 
-    pub fn joined(self, queue: u64, weight: u64, length: u64, going: u64) -> Table
+    pub(crate) fn joined(self, queue: u64, weight: u64, length: u64, going: u64) -> Table
         requires { ⌜ (asks.Joins self queue weight length) × (asks.Ahead self going) ⌝ }
         ensures { λ r. ⌜ r ≡ events.joined self queue weight length ⌝ }
     {
@@ -161,7 +161,7 @@ impl Table {
     }
 
     // Freed if V has reached it; else it goes, with its weight kept in W, and is released when V does.
-    pub fn left(self, queue: u64, going: u64) -> Table
+    pub(crate) fn left(self, queue: u64, going: u64) -> Table
         requires { ⌜ (asks.Leaves self queue) × (asks.Ahead self going) ⌝ }
         ensures { λ r. ⌜ r ≡ events.left self queue ⌝ }
     {
@@ -179,14 +179,14 @@ impl Table {
         self.placed(queue, gone).settled(lesser(going, position))
     }
 
-    pub fn reweighted(self, queue: u64, weight: u64, length: u64, going: u64) -> Table
+    pub(crate) fn reweighted(self, queue: u64, weight: u64, length: u64, going: u64) -> Table
         requires { ⌜ (asks.Reweights self queue weight length) × (asks.Ahead self going) ⌝ }
         ensures { λ r. ⌜ r ≡ events.reweighted self queue weight length ⌝ }
     {
         self.left(queue, going).joined(queue, weight, length, going)
     }
 
-    pub fn length_set(self, queue: u64, length: u64) -> Table
+    pub(crate) fn length_set(self, queue: u64, length: u64) -> Table
         requires { ⌜ asks.Lengthens self queue length ⌝ }
         ensures { λ r. ⌜ r ≡ events.lengthSet self queue length ⌝ }
     {
@@ -195,7 +195,7 @@ impl Table {
         self.placed(queue, next_set(row, meant))
     }
 
-    pub fn returned(self, queue: u64, used: u64, early: bool, going: u64) -> Table
+    pub(crate) fn returned(self, queue: u64, used: u64, early: bool, going: u64) -> Table
         requires { ⌜ (asks.Returns self queue used) × (asks.Ahead self going) ⌝ }
         ensures { λ r. ⌜ r ≡ events.returned self queue used early ⌝ }
     {

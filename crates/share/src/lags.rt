@@ -34,7 +34,7 @@ impl Table {
         lag_by(row.weight, row.position, total, sum)
     }
 
-    pub fn write_lags(self, list: &mut [i64])
+    pub(crate) fn write_lags(self, list: &mut [i64])
         requires { ⌜ (asks.Orderly self) × (64 ≤ length (now list)) ⌝ }
         ensures { λ _. ⌜ now (list .exit) ≡ lag.lagsInto self (now (list .entry)) ⌝ }
     {

@@ -51,7 +51,7 @@ pub const NO_REASON: Reasons = Reasons {
 
 impl Reasons {
     // In the order of the numbers, 1 to 14.
-    pub fn first(self) -> Verdict
+    pub(crate) fn first(self) -> Verdict
         ensures { λ r. ⌜ r ≡ verdictOf (checks.firstOf (allChecks self)) ⌝ }
     {
         if self.unsound {
@@ -100,19 +100,19 @@ impl Reasons {
     }
 }
 
-pub fn queue_outside(queue: u64) -> bool
+pub(crate) fn queue_outside(queue: u64) -> bool
     ensures { λ r. ⌜ r ≡ checks.queueOutside queue ⌝ }
 {
     Table::QUEUES <= queue
 }
 
-pub fn length_outside(length: u64) -> bool
+pub(crate) fn length_outside(length: u64) -> bool
     ensures { λ r. ⌜ r ≡ checks.lengthOutside length ⌝ }
 {
     Table::MAX_LENGTH < length
 }
 
-pub fn is_free(row: Row) -> bool
+pub(crate) fn is_free(row: Row) -> bool
     ensures { λ r. ⌜ r ≡ rows.isFree (row .state) ⌝ }
 {
     let state = row.state;
@@ -123,7 +123,7 @@ pub fn is_free(row: Row) -> bool
     }
 }
 
-pub fn is_asking(row: Row) -> bool
+pub(crate) fn is_asking(row: Row) -> bool
     ensures { λ r. ⌜ r ≡ rows.isAsking (row .state) ⌝ }
 {
     let state = row.state;

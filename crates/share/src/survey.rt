@@ -75,7 +75,7 @@ const UNSOUND: Survey = Survey {
     going: 0,
 };
 
-pub fn in_range(weight: u64, position: u64) -> bool
+fn in_range(weight: u64, position: u64) -> bool
     ensures { λ r. ⌜ r ≡ sound.inRange weight position ⌝ }
 {
     if outside(weight, 1, Table::MAX_WEIGHT) {
@@ -84,7 +84,7 @@ pub fn in_range(weight: u64, position: u64) -> bool
     position <= Table::CEILING
 }
 
-pub fn request_orderly(q: Request, weight: u64, position: u64, step: u64) -> bool
+fn request_orderly(q: Request, weight: u64, position: u64, step: u64) -> bool
     requires { ⌜ (position ≤ ceiling) × (step ≡ stepOf weight) ⌝ }
     ensures { λ r. ⌜ r ≡ sound.orderlyRequest weight position q ⌝ }
 {
@@ -181,7 +181,7 @@ fn look_asking(q: Request, step: u64, weight: u64, position: u64, total: u64, su
     }
 }
 
-pub fn look_at(row: Row, steps: &[u64; 16], total: u64, sum: u64) -> Look
+fn look_at(row: Row, steps: &[u64; 16], total: u64, sum: u64) -> Look
     requires { ⌜ (now steps ≡ allSteps) × (total ≤ 1024) ⌝ }
     ensures { λ r. ⌜ r ≡ told.lookOf total sum row ⌝ }
 {
@@ -202,7 +202,7 @@ pub fn look_at(row: Row, steps: &[u64; 16], total: u64, sum: u64) -> Look
     }
 }
 
-pub fn lesser(a: u64, b: u64) -> u64
+pub(crate) fn lesser(a: u64, b: u64) -> u64
     ensures { λ r. ⌜ r ≡ min a b ⌝ }
 {
     if a < b {
@@ -263,7 +263,7 @@ fn whole(seen: Seen, total: u64, sum: u64, limit: u64) -> bool
 }
 
 // A queue number as a place among the rows; 0 where there is no such row.
-pub fn place(queue: u64) -> usize
+fn place(queue: u64) -> usize
     ensures { λ r. ⌜ told.Place queue r ⌝ }
 {
     if queue < Table::QUEUES {
@@ -326,7 +326,7 @@ impl Table {
         ticks == 0
     }
 
-    pub fn survey(self) -> Survey
+    pub(crate) fn survey(self) -> Survey
         ensures { λ r. ⌜ told.Surveyed self r ⌝ }
     {
         let total = self.total;
