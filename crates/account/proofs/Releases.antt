@@ -1,0 +1,231 @@
+-- Table and account release in lockstep. The sign of an account is the table's test whether V has reached the position, so both find the same
+-- rows due; freeing one moves V by its lag over the weight that is left, in both. The table's release has one end, so the account's has, too.
+use mathlib.Core.Path.{_≡_, refl, ap, sym, subst, _∙_}
+use mathlib.Core.Bool.{true, false}
+use mathlib.Core.Logic.{⊎-elim}
+use Prim.Native.Nat.{ℕ, _+_, _*_, _≤_, _<_}
+use native.Mathlib.Nat.{mul-le-mul-left, mul-le-mul-right, le-of-mul-le-mul-left}
+use native.Mathlib.Omega.{arith}
+use lib.ListN.{length}
+use borrow.Author.Tests.{ne-eqb}
+use Rattle.laws.proofs.Sums.{sum-at}
+use Rattle.laws.proofs.Tests.{clash, le-or-lt, and-left, and-right, and-both}
+use Rattle.rows.specs.declared.Row.{Row}
+use Rattle.rows.specs.declared.State.{State}
+use Rattle.rows.specs.declared.State.the-variants.{Free, Going, Asking}
+use Rattle.rows.specs.Numbers.{queues, unit}
+use Rattle.rows.specs.Row.{blank, isFree, isGoing, weightIn as rowWeight}
+use Rattle.share.specs.declared.Table.{Table}
+use Rattle.share.specs.Table.{row, trueTotal, AtMostV}
+use Rattle.share.specs.Sound.{Ready}
+use Rattle.share.specs.Release.{freed, Frees, done, one, released}
+use Rattle.share.proofs.Placed.{TrueSums, placed-true}
+use Rattle.share.proofs.Release.{ready-inside, released-frees, frees-released}
+use Rattle.share.proofs.Sound.{row-past}
+use Rattle.fractions.specs.Fraction.{Fraction, _⊕_, portion}
+use Rattle.fractions.proofs.Values.{value-nothing, value-at-most, at-most-value}
+use Rattle.account.specs.Account as Acc
+use Rattle.account.specs.Account.{Entry, absent, Account, entry, owedTo, allGain, passedOn, rest, weightLeft, settled}
+use Rattle.account.specs.Books.{due, Clears}
+use Rattle.account.proofs.Match.{Match, same-weight, placed-total, placed-sum, set-both, match-set, match-gain, blank-alike}
+use Rattle.account.proofs.Tied.{Held, Live, Tied, Clocked, Moves, moved-clock, moved, blank-held}
+
+-- the sign of an account
+module _ {A W : ℕ} {r : Row} {e : Entry} (held : Held A W r e) (weighs : 1 ≤ rowWeight r) where
+  pub settled-yes : r .position * W ≤ A → settled e ≡ true
+  unfolding settled
+  settled-yes h = value-at-most (value-nothing 0 1 (omega arith)) (held .lags) (omega (arith, mul-le-mul-left (rowWeight r) h))
+
+  pub yes-settled : settled e ≡ true → r .position * W ≤ A
+  unfolding settled
+  yes-settled h =
+      le-of-mul-le-mul-left {k = rowWeight r} (omega (arith, at-most-value (value-nothing 0 1 (omega arith)) (held .lags) h)) weighs
+
+-- a row that is not free is one of the table's, and its weight is within W
+pub present-inside : (t : Table) (i : ℕ) → isFree (row t i .state) ≡ false → i < length (t .rows)
+present-inside t i e =
+    ⊎-elim (λ past. absurd (clash (ap (λ (x : Row). isFree (x .state)) (row-past t i past)) e)) (λ l. l) (le-or-lt (length (t .rows)) i)
+
+going-present : (s : State) → isGoing s ≡ true → isFree s ≡ false
+going-present Free e = absurd (clash e refl)
+going-present Going e = refl
+going-present (Asking q) e = refl
+
+pub weight-within : (t : Table) (i : ℕ) → TrueSums t → i < length (t .rows) → rowWeight (row t i) ≤ t .total
+unfolding row trueTotal
+weight-within t i sums inside = omega (arith, sums .total-true, sum-at rowWeight (t .rows) i blank inside)
+
+-- the numbers of a departure: w at p is taken out of A and W, and V, which had reached p, does not fall
+move-numbers : (A W A' W' U w p : ℕ) → A' + w * p ≡ A → W' + w ≡ W → w * A * (W * W' * U) + W * U * W' * (A * W') ≡ W * U * W' * (A' * W) + w * (W * p) * (W * W' * U)
+move-numbers A W A' W' U w p a b = left ∙ ap (λ (k : ℕ). k * (W * W' * U)) core ∙ right
+  where
+    core : w * A + A * W' ≡ A' * W + w * (W * p)
+    core = rw (← a, ← b) (omega arith)
+
+    left : w * A * (W * W' * U) + W * U * W' * (A * W') ≡ (w * A + A * W') * (W * W' * U)
+    left = omega arith
+
+    right : (A' * W + w * (W * p)) * (W * W' * U) ≡ W * U * W' * (A' * W) + w * (W * p) * (W * W' * U)
+    right = omega arith
+
+rise-numbers : (A W A' W' w p : ℕ) → A' + w * p ≡ A → W' + w ≡ W → p * W ≤ A → A * W' ≤ A' * W
+rise-numbers A W A' W' w p a b h =
+    rw (← a, ← b) (omega (arith, mul-le-mul-left w (fits (rw (← a, ← b) at h))))
+  where
+    fits : p * (W' + w) ≤ A' + w * p → p * W' ≤ A'
+    fits k = omega arith
+
+pub passed-all : (f : Fraction) (n : ℕ) → 0 < n → passedOn f n ≡ f
+unfolding passedOn
+passed-all f n h = simp (ne-eqb n 0 (λ e. omega arith))
+
+-- the table that a departure leaves
+module _ (t : Table) (i : ℕ) (sums : TrueSums t) (inside : i < length (t .rows)) where
+  pub W-left : freed t i .total + rowWeight (row t i) ≡ t .total
+  unfolding freed rowWeight
+  W-left = omega (arith, placed-total t i blank sums inside)
+
+  A-left : freed t i .sum + rowWeight (row t i) * row t i .position ≡ t .sum
+  unfolding freed rowWeight
+  A-left = omega (arith, placed-sum t i blank sums inside)
+
+  pub freed-rises : AtMostV t (row t i .position) → t .sum * freed t i .total ≤ freed t i .sum * t .total
+  freed-rises level =
+      rise-numbers (t .sum) (t .total) (freed t i .sum) (freed t i .total) (rowWeight (row t i)) (row t i .position) A-left W-left level
+
+module _ (t : Table) (a : Account) (i : ℕ) (tied : Tied t a) (here : isFree (row t i .state) ≡ false) (level : AtMostV t (row t i .position)) where
+  inside : i < length (t .rows)
+  inside = present-inside t i here
+
+  numbered : i < queues
+  numbered = omega (arith, inside, tied .matched .rows-each)
+
+  rest-match : Match (freed t i) (rest a i)
+  unfolding freed rest
+  rest-match = match-set t (a .entries) i blank absent numbered blank-alike (tied .matched)
+
+  moves : 0 < freed t i .total → Moves (t .sum) (t .total) (freed t i .sum) (freed t i .total) (owedTo (entry a i)) (freed t i .total)
+  unfolding entry
+  moves h =
+      let sums = tied .matched .sums in
+      let before : 0 < t .total = omega (arith, W-left t i sums inside) in
+      record {
+        plus = rowWeight (row t i) * t .sum;
+        less = rowWeight (row t i) * (t .total * row t i .position);
+        base = t .total * unit;
+        amount = tied .live before .held i .lags;
+        shared = h;
+        before = before;
+        after = h;
+        move =
+            move-numbers (t .sum) (t .total) (freed t i .sum) (freed t i .total) unit (rowWeight (row t i)) (row t i .position)
+            (A-left t i sums inside) (W-left t i sums inside);
+        rises = freed-rises t i sums inside level;
+      }
+
+  shared-out : 0 < freed t i .total → Live (freed t i) (record { entries = allGain (owedTo (entry a i)) (freed t i .total) (rest a i); virtual = a .virtual ⊕ portion (owedTo (entry a i)) unit (freed t i .total) })
+  unfolding freed rest
+  shared-out h =
+      let m = moves h in
+      let live = tied .live (m .before) in
+      record {
+        clock = moved-clock m (live .clock);
+        held =
+            moved m rest-match
+            (set-both (Held (t .sum) (t .total)) t (a .entries) i blank absent inside (omega (arith, numbered, tied .matched .entries-each))
+            (blank-held (t .sum) (t .total) (m .before)) (live .held));
+      }
+
+  left-is : weightLeft a i ≡ freed t i .total
+  unfolding weightLeft
+  left-is = same-weight rest-match
+
+  pub freed-tied : Tied (freed t i) (Acc.freed a i)
+  unfolding Acc.freed
+  freed-tied =
+      record {
+        matched = match-gain _ _ rest-match;
+        live = λ h. rw (left-is, passed-all (owedTo (entry a i)) (freed t i .total) h) (shared-out h);
+      }
+
+-- a row is due in the account exactly if it is ready in the table
+module _ (t : Table) (a : Account) (tied : Tied t a) (i : ℕ) where
+  pub live-at : isFree (row t i .state) ≡ false → Live t a
+  live-at here =
+      tied .live (omega (arith, weight-within t i (tied .matched .sums) (present-inside t i here), tied .matched .alike i .weighs here))
+
+  due-ready : due (entry a i) ≡ true → Ready t i
+  unfolding due entry
+  due-ready e =
+      let goes : isGoing (row t i .state) ≡ true = tied .matched .alike i .going ∙ and-left _ _ e in
+      let here = going-present (row t i .state) goes in
+      record { going = goes; level = yes-settled (live-at here .held i) (tied .matched .alike i .weighs here) (and-right (Acc.isGoing (entry a i)) _ e) }
+
+  ready-due : Ready t i → due (entry a i) ≡ true
+  unfolding due entry
+  ready-due r =
+      let here = going-present (row t i .state) (r .going) in
+      and-both (sym (tied .matched .alike i .going) ∙ r .going) (settled-yes (live-at here .held i) (tied .matched .alike i .weighs here) (r .level))
+
+lockstep : {a b : Account} → Clears a b → (t : Table) → Tied t a → (u : Table) × Frees t u × Tied u b
+lockstep {a} (Clears.done calm) t tied = (t, done (λ i r. clash (ready-due t a tied i r) (calm i)), tied)
+lockstep {a} (Clears.one i d further) t tied =
+    let r = due-ready t a tied i d in
+    let more = lockstep further (freed t i) (freed-tied t a i tied (going-present (row t i .state) (r .going)) (r .level)) in
+    (more .0, one i r (more .1), more .2)
+
+-- whatever the account's order, its release ends tied to the table's
+pub released-tied : {a b : Account} (t : Table) → Tied t a → Clears a b → Tied (released t) b
+released-tied {a} {b} t tied way =
+    let end = lockstep way t tied in
+    subst (λ (u : Table). Tied u b) (frees-released (end .1)) (end .2)
+
+-- what a release does to W, A and V
+pub record Falls (t u : Table) : Type 0 where
+  pub total-less : u .total ≤ t .total
+  pub sum-less : u .sum ≤ t .sum
+  pub rises : 0 < u .total → t .sum * u .total ≤ u .sum * t .total
+
+chain-numbers : (A W B X C Y : ℕ) → 0 < X → A * X ≤ B * W → B * Y ≤ C * X → A * Y ≤ C * W
+chain-numbers A W B X C Y h a b = le-of-mul-le-mul-left {k = X} (omega (arith, mul-le-mul-right Y a, mul-le-mul-right W b)) h
+
+falls-on : {t m u : Table} → Falls t m → Falls m u → Falls t u
+falls-on {t} {m} {u} p q =
+    record {
+      total-less = omega (arith, p .total-less, q .total-less);
+      sum-less = omega (arith, p .sum-less, q .sum-less);
+      rises =
+          λ h.
+          let some : 0 < m .total = omega (arith, q .total-less) in
+          chain-numbers (t .sum) (t .total) (m .sum) (m .total) (u .sum) (u .total) some (p .rises some) (q .rises h);
+    }
+
+freed-true : (t : Table) (i : ℕ) → i < length (t .rows) → TrueSums t → TrueSums (freed t i)
+unfolding freed
+freed-true t i inside sums = placed-true t i blank inside sums
+
+frees-falls : {t u : Table} → Frees t u → TrueSums t → Falls t u
+frees-falls (done calm) sums = record { total-less = omega arith; sum-less = omega arith; rises = λ h. omega arith }
+frees-falls {t} (one i r further) sums =
+    let inside = ready-inside t i r in
+    falls-on
+    (record {
+      total-less = omega (arith, W-left t i sums inside);
+      sum-less = omega (arith, A-left t i sums inside);
+      rises = λ h. freed-rises t i sums inside (r .level);
+    })
+    (frees-falls further (freed-true t i inside sums))
+
+pub released-falls : (t : Table) → TrueSums t → Falls t (released t)
+released-falls t sums = frees-falls (released-frees t) sums
+
+pub released-clocked : (t m : Table) → TrueSums m → Clocked t m → Clocked t (released m)
+released-clocked t m sums c =
+    let f = released-falls m sums in
+    record {
+      starts = λ none h. omega (arith, c .starts none (omega (arith, f .total-less)), f .sum-less);
+      rises =
+          λ h.
+          let some : 0 < m .total = omega (arith, f .total-less) in
+          chain-numbers (t .sum) (t .total) (m .sum) (m .total) (released m .sum) (released m .total) some (c .rises some) (f .rises h);
+    }

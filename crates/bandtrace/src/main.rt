@@ -1,0 +1,97 @@
+// Runs a list of events, one to a line, from standard input, and prints what each was answered. What happens between reading and writing is
+// `lines`; here bytes are moved. If reading or writing fails it stops.
+use libc::STDIN_FILENO;
+use libc::STDOUT_FILENO;
+use lines::State;
+
+// A state, and whether there is anything left to do.
+struct Step {
+    state: State,
+    going: bool,
+}
+
+fn main() {
+    let mut buf = io::large_buffer();
+    let mut out = io::large_buffer();
+    let header = lines::header();
+    if io::write_all(STDOUT_FILENO, &header) {
+        run(&mut buf, &mut out);
+    }
+}
+
+// A proved loop has to end, and nothing says that input does: it counts its turns down from a number that no run uses up.
+fn run(buf: &mut [u8], out: &mut [u8]) {
+    let mut step = Step {
+        state: lines::begin(),
+        going: true,
+    };
+    let mut turns = u64::MAX;
+    while turns > 0 {
+        turns -= 1;
+        let going = step.going;
+        if !going {
+            return;
+        }
+        let state = step.state;
+        step = next(state, buf, out);
+    }
+}
+
+// Answers the whole lines that are held before it reads on.
+fn next(state: State, buf: &mut [u8], out: &mut [u8]) -> Step {
+    let more = state.more;
+    if more {
+        return advance(state, buf, out);
+    }
+    let have = state.have;
+    if buf.len() <= have {
+        return Step {
+            state,
+            going: false,
+        };
+    }
+    let got = libc::read(STDIN_FILENO, &mut buf[have..]);
+    if got < 0 {
+        return Step {
+            state,
+            going: false,
+        };
+    }
+    if got == 0 {
+        return last(state, buf, out);
+    }
+    let n = io::count(got, &buf[have..]);
+    Step {
+        state: state.grown(n),
+        going: true,
+    }
+}
+
+// One turn, and what it wrote goes out. A turn that leaves whole lines and writes nothing can only be the last.
+fn advance(state: State, buf: &mut [u8], out: &mut [u8]) -> Step {
+    let after = lines::turn(state, buf, out);
+    let written = after.written;
+    if written == 0 {
+        let more = after.more;
+        return Step {
+            state: after,
+            going: !more,
+        };
+    }
+    let is_written = io::write_all(STDOUT_FILENO, &out[..written]);
+    Step {
+        state: after,
+        going: is_written,
+    }
+}
+
+// The end of input: a line that has no newline counts.
+fn last(state: State, buf: &mut [u8], out: &mut [u8]) -> Step {
+    let closed = lines::close(state, buf);
+    let step = advance(closed, buf, out);
+    let after = step.state;
+    Step {
+        state: after,
+        going: false,
+    }
+}

@@ -1,0 +1,3 @@
+-- Exact fractions: document 01, "The account", its second sentence.
+pub mod Signed
+pub mod Fraction

@@ -1,0 +1,1 @@
+// No code: exact fractions and their laws, for the account.

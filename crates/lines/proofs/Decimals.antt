@@ -1,0 +1,197 @@
+-- A decimal read from the left. After n digits that make v the rest of the field decides: `contd` says how, and each byte takes it one
+-- digit further or refuses the field.
+use mathlib.Core.Path.{_≡_, refl, sym, ap, _∙_}
+use mathlib.Core.Bool.{Bool, true, false, cond, not, _&&_}
+use mathlib.Core.List.{List, [], _∷_, _++_}
+use mathlib.Core.Option.{Option, none, some}
+use mathlib.Core.Logic.{⊎-elim}
+use Prim.Native.Nat.{ℕ, zero, suc, _+_, _-_, _*_, _^_, _≤_, _<_}
+use native.Mathlib.Nat.{zero-add, add-zero, add-suc, suc-add, pow-suc, pow-le-pow-right}
+use native.Mathlib.Numerals.{add-one}
+use native.Mathlib.Omega.{arith}
+use lib.Dec.{leb, ltb, eqb}
+use lib.ListN.{length, drop, getD}
+use lib.Seq.{drop-cons, drop-length}
+use borrow.Author.Tests.{leb-true, le-leb, lt-leb, lt-ltb, le-ltb, ltb-true, eqb-true, eqb-false, eq-eqb, ne-eqb}
+use Rattle.laws.specs.Lists.{every, all}
+use Rattle.laws.proofs.Tests.{refuted, clash, either, and-left, and-right, and-both, every-each, each-every, Each}
+use Rattle.lines.specs.Cut.{space, before}
+use Rattle.lines.specs.Decimal.{digit, noLeadingZero, valueFrom, isDecimal, decimal}
+use Rattle.lines.specs.Reading.{fieldAs, fieldAt, finishedAs, zeroLeads}
+use Rattle.lines.specs.declared.reading.Field.{Field}
+use Rattle.lines.specs.declared.reading.Field.the-variants.{Decimal, Nothing}
+use Rattle.lines.proofs.Cutting.{before-mark, before-other}
+
+abbrev pub isNil : List ℕ → Bool
+isNil [] = true
+isNil (b ∷ bs) = false
+
+-- a zero that was read first must have been the whole field
+abbrev pub lead : ℕ → ℕ → List ℕ → Bool
+lead zero v f = noLeadingZero f
+lead (suc n) v f = cond (eqb v 0) (isNil f) true
+
+abbrev pub tests : ℕ → ℕ → List ℕ → List Bool
+tests n v f = leb 1 (n + length f) ∷ leb (n + length f) 5 ∷ all digit f ∷ lead n v f ∷ []
+
+pub contd : ℕ → ℕ → List ℕ → Option ℕ
+contd n v f = cond (every (tests n v f)) (some (valueFrom v f)) none
+
+pub start : (f : List ℕ) → decimal f ≡ contd 0 0 f
+unfolding contd decimal isDecimal
+start f = rw zero-add
+
+refuse : (n v : ℕ) (f : List ℕ) → (Each (tests n v f) → ⊥) → contd n v f ≡ none
+unfolding contd
+refuse n v f h = rw (refuted (every (tests n v f)) (λ e. h (every-each (tests n v f) e)))
+
+nothing-yet : (v : ℕ) → contd 0 v [] ≡ none
+unfolding contd every
+nothing-yet v = refl
+
+whole : (n v : ℕ) → 0 < n → n ≤ 5 → contd n v [] ≡ some v
+unfolding contd
+whole zero v h l = absurd (omega arith)
+whole (suc n) v h l =
+    rw (each-every (tests (suc n) v []) (le-leb 1 (suc n + 0) (omega arith), (le-leb (suc n + 0) 5 (omega arith), (refl, (by (eqb v 0), tt)))))
+  where
+    by : (t : Bool) → cond t true true ≡ true
+    by true = refl
+    by false = refl
+
+no-digit : (n v b : ℕ) (f : List ℕ) → digit b ≡ false → contd n v (b ∷ f) ≡ none
+no-digit n v b f h = refuse n v (b ∷ f) (λ e. clash (and-left (digit b) (all digit f) (e .1 .1 .0)) h)
+
+too-long : (n v b : ℕ) (f : List ℕ) → n ≡ 5 → contd n v (b ∷ f) ≡ none
+too-long n v b f h = refuse n v (b ∷ f) (λ e. omega (arith, leb-true (n + suc (length f)) 5 (e .1 .0)))
+
+after-zero : (n v b : ℕ) (f : List ℕ) → zeroLeads v n ≡ true → contd n v (b ∷ f) ≡ none
+unfolding zeroLeads
+after-zero zero v b f h = absurd (omega (arith, ltb-true 0 0 (and-left (ltb 0 0) (eqb v 0) h)))
+after-zero (suc n) v b f h =
+    refuse (suc n) v (b ∷ f)
+    (λ e. clash (e .1 .1 .1 .0) (rw (and-right (ltb 0 (suc n)) (eqb v 0) h) refl))
+
+lead-next : (n v b : ℕ) (f : List ℕ) → (n ≡ 0 → v ≡ 0) → 48 ≤ b → zeroLeads v n ≡ false → lead n v (b ∷ f) ≡ lead (suc n) (v * 10 + (b - 48)) f
+unfolding zeroLeads
+lead-next zero v b [] z h q = by (eqb (v * 10 + (b - 48)) 0)
+  where
+    by : (t : Bool) → true ≡ cond t true true
+    by true = refl
+    by false = refl
+lead-next zero v b (x ∷ f) z h q = by (eqb b 48) refl
+  where
+    by : (t : Bool) → eqb b 48 ≡ t → not t ≡ cond (eqb (v * 10 + (b - 48)) 0) false true
+    by true e = rw (eq-eqb (v * 10 + (b - 48)) 0 (omega (arith, z refl, eqb-true b 48 e)))
+    by false e = rw (ne-eqb (v * 10 + (b - 48)) 0 (λ x. eqb-false b 48 e (omega arith)))
+lead-next (suc n) v b f z h q = by (eqb v 0) refl
+  where
+    by : (t : Bool) → eqb v 0 ≡ t → cond t false true ≡ cond (eqb (v * 10 + (b - 48)) 0) (isNil f) true
+    by true e = absurd (clash (and-both (lt-ltb 0 (suc n) (omega arith)) e) q)
+    by false e = rw (ne-eqb (v * 10 + (b - 48)) 0 (λ x. eqb-false v 0 e (omega arith)))
+
+next : (n v b : ℕ) (f : List ℕ) → (n ≡ 0 → v ≡ 0) → digit b ≡ true → zeroLeads v n ≡ false → contd n v (b ∷ f) ≡ contd (suc n) (v * 10 + (b - 48)) f
+unfolding contd
+next n v b f z h q =
+    rw (lead-next n v b f z (leb-true 48 b (and-left (leb 48 b) (leb b 57) h)) q, h, add-suc, ← suc-add)
+
+-- the field as it stands at place i, after the digits from place `at` on made v
+pub goOn : List ℕ → ℕ → ℕ → ℕ → Field
+goOn s at v i = fieldAs (contd (i - at) v (before space (drop i s))) (i + length (before space (drop i s)))
+
+module _ (s : List ℕ) (at : ℕ) where
+  pub begun : fieldAt s at ≡ goOn s at 0 at
+  unfolding fieldAt goOn
+  begun = let e : at - at ≡ 0 = omega arith in rw (start, e)
+
+  module _ (v i : ℕ) (low : at ≤ i) where
+    stops : before space (drop i s) ≡ [] → i ≤ at + 5 → goOn s at v i ≡ finishedAs at i v
+    unfolding goOn finishedAs
+    stops e h = by (eqb at i) refl
+      where
+        by : (t : Bool) → eqb at i ≡ t → fieldAs (contd (i - at) v (before space (drop i s))) (i + length (before space (drop i s))) ≡ cond t Nothing (Decimal v i)
+        by true t = let z : i - at ≡ 0 = omega (arith, eqb-true at i t) in rw (e, z, nothing-yet v)
+        by false t =
+            let n : at < i = omega (arith, eqb-false at i t) in
+            rw (e, whole (i - at) v (omega arith) (omega arith), add-zero)
+
+    pub at-end : i ≡ length s → i ≤ at + 5 → goOn s at v i ≡ finishedAs at i v
+    unfolding before
+    at-end e h = stops (rw (e, drop-length)) h
+
+    module _ (here : i < length s) where
+      pub at-space : getD s i 0 ≡ space → i ≤ at + 5 → goOn s at v i ≡ finishedAs at i v
+      at-space e h = stops (rw (drop-cons s i 0 here, before-mark space (drop (suc i) s) (getD s i 0) e)) h
+
+      -- what no decimal has there
+      module _ (other : getD s i 0 ≡ space → ⊥) where
+        inside : before space (drop i s) ≡ getD s i 0 ∷ before space (drop (suc i) s)
+        inside = rw (drop-cons s i 0 here, before-other space (drop (suc i) s) (getD s i 0) other)
+
+        pub at-other : digit (getD s i 0) ≡ false → goOn s at v i ≡ Nothing
+        unfolding goOn
+        at-other h = rw (inside, no-digit (i - at) v (getD s i 0) (before space (drop (suc i) s)) h)
+
+        pub at-sixth : i - at ≡ 5 → goOn s at v i ≡ Nothing
+        unfolding goOn
+        at-sixth h = rw (inside, too-long (i - at) v (getD s i 0) (before space (drop (suc i) s)) h)
+
+        pub at-zero : zeroLeads v (i - at) ≡ true → goOn s at v i ≡ Nothing
+        unfolding goOn
+        at-zero h = rw (inside, after-zero (i - at) v (getD s i 0) (before space (drop (suc i) s)) h)
+
+        pub at-digit : (i ≡ at → v ≡ 0) → digit (getD s i 0) ≡ true → zeroLeads v (i - at) ≡ false
+            → goOn s at v i ≡ goOn s at (v * 10 + (getD s i 0 - 48)) (i + 1)
+        unfolding goOn
+        at-digit z d h =
+            let e : (i + 1) - at ≡ suc (i - at) = omega arith in
+            rw (inside, next (i - at) v (getD s i 0) (before space (drop (suc i) s)) (λ x. z (omega arith)) d h, e, add-one, add-suc, suc-add)
+
+-- n digits make less than 10 to the n
+pub grows : (n v d : ℕ) → v < 10 ^ n → d < 10 → v * 10 + d < 10 ^ suc n
+grows n v d h k = rw pow-suc (omega arith)
+
+pub five : (n v : ℕ) → v < 10 ^ n → n ≤ 5 → v < 100000
+five n v h k = let l : 10 ^ n ≤ 10 ^ 5 = pow-le-pow-right (omega arith) k in omega arith
+
+-- what holds of the loop that reads a field: the digits so far, and that the rest of the field decides
+pub record Reached (s : List ℕ) (at v i : ℕ) : Type 0 where
+  pub low : at ≤ i
+  pub high : i ≤ length s
+  pub few : i ≤ at + 5
+  pub none-made : i ≡ at → v ≡ 0
+  pub small : v < 10 ^ (i - at)
+  pub decides : fieldAt s at ≡ goOn s at v i
+
+pub reached-first : (s : List ℕ) (at : ℕ) → at ≤ length s → Reached s at 0 at
+reached-first s at h =
+    record { low = omega arith; high = h; few = omega arith; none-made = λ e. refl; small = let e : at - at ≡ 0 = omega arith in rw e (omega arith); decides = begun s at }
+
+module _ (s : List ℕ) (at v i : ℕ) (r : Reached s at v i) (here : i < length s) (other : getD s i 0 ≡ space → ⊥) where
+  pub reached-next : 48 ≤ getD s i 0 → getD s i 0 ≤ 57 → (i - at ≡ 5 → ⊥) → zeroLeads v (i - at) ≡ false → Reached s at (v * 10 + (getD s i 0 - 48)) (i + 1)
+  reached-next a b n z =
+      record {
+        low = omega arith;
+        high = omega arith;
+        few = omega (arith, r .low, r .few, n);
+        none-made = λ e. absurd (omega (arith, r .low));
+        small =
+            let e : (i + 1) - at ≡ suc (i - at) = omega (arith, r .low) in
+            rw e (grows (i - at) v (getD s i 0 - 48) (r .small) (omega arith));
+        decides = r .decides ∙ at-digit s at v i (r .low) here other (r .none-made) (and-both (le-leb 48 (getD s i 0) a) (le-leb (getD s i 0) 57 b)) z;
+      }
+
+  pub reached-other : digit (getD s i 0) ≡ false → fieldAt s at ≡ Nothing
+  reached-other h = r .decides ∙ at-other s at v i (r .low) here other h
+
+  pub reached-sixth : i - at ≡ 5 → fieldAt s at ≡ Nothing
+  reached-sixth h = r .decides ∙ at-sixth s at v i (r .low) here other h
+
+  pub reached-zero : zeroLeads v (i - at) ≡ true → fieldAt s at ≡ Nothing
+  reached-zero h = r .decides ∙ at-zero s at v i (r .low) here other h
+
+pub under-digits : (b : ℕ) → b < 48 → digit b ≡ false
+under-digits b h = rw (lt-leb 48 b h)
+
+pub over-digits : (b : ℕ) → 57 < b → digit b ≡ false
+over-digits b h = rw (le-leb 48 b (omega arith), lt-leb b 57 h)

@@ -1,0 +1,198 @@
+-- A number's digits: counted, filled from the end, and put into a buffer.
+use mathlib.Core.Path.{_≡_, refl, sym, ap, _∙_}
+use mathlib.Core.Bool.{Bool, true, false, cond}
+use mathlib.Core.List.{List, [], _∷_, _++_, append-assoc}
+use mathlib.Core.Logic.{⊎-elim}
+use Prim.Native.Nat.{ℕ, zero, suc, _+_, _-_, _*_, _/_, _%_, _^_, _≤_, _<_}
+use native.Mathlib.Nat.{add-zero, add-suc, suc-add, pow-suc}
+use native.Mathlib.Omega.{arith}
+use lib.Dec.{ltb}
+use lib.ListN.{length, take, drop, set, length-append, length-set}
+use lib.Seq.{sets, length-sets, set-comm, sets-eq, take-at, length-take-le}
+use borrow.Author.Tests.{lt-ltb, le-ltb, ltb-true}
+use Rattle.laws.proofs.Tests.{le-or-lt, either}
+use Rattle.lines.specs.Decimal.{digitsIn, digits}
+use Rattle.lines.specs.Print.{sums, dashes, answerLine, shownLine}
+use Rattle.lines.specs.declared.writing.Shown.{Shown}
+use Rattle.lines.specs.Places.{lastDigits, placesIn, places, Wrote}
+
+pub places-one : (k n : ℕ) → n < 10 → placesIn k n ≡ 1
+unfolding placesIn
+places-one zero n h = refl
+places-one (suc k) n h = rw (lt-ltb n 10 h)
+
+pub places-more : (k n : ℕ) → 10 ≤ n → placesIn (suc k) n ≡ suc (placesIn k (n / 10))
+unfolding placesIn
+places-more k n h = rw (le-ltb n 10 h)
+
+pub places-most : (k n : ℕ) → placesIn k n ≤ suc k
+unfolding placesIn
+places-most zero n = omega arith
+places-most (suc k) n = by (ltb n 10) (places-most k (n / 10))
+  where
+    by : (t : Bool) → placesIn k (n / 10) ≤ suc k → cond t 1 (suc (placesIn k (n / 10))) ≤ suc (suc k)
+    by true h = omega arith
+    by false h = omega arith
+
+-- so many last digits are all of them
+pub digits-last : (k n : ℕ) → digitsIn k n ≡ lastDigits (placesIn k n) n
+unfolding digitsIn placesIn lastDigits
+digits-last zero n = refl
+digits-last (suc k) n = by (ltb n 10) refl (digits-last k (n / 10))
+  where
+    by : (t : Bool) → ltb n 10 ≡ t → digitsIn k (n / 10) ≡ lastDigits (placesIn k (n / 10)) (n / 10)
+        → cond t ((48 + n) ∷ []) (digitsIn k (n / 10) ++ ((48 + n % 10) ∷ [])) ≡ lastDigits (cond t 1 (suc (placesIn k (n / 10)))) n
+    by true e ih = let h : n % 10 ≡ n = omega (arith, ltb-true n 10 e) in rw h
+    by false e ih = rw ih
+
+pub last-length : (k n : ℕ) → length (lastDigits k n) ≡ k
+unfolding lastDigits
+last-length zero n = refl
+last-length (suc k) n = let h = last-length k (n / 10) in simp length-append (omega arith)
+
+pub digits-length : (n : ℕ) → length (digits n) ≡ places n
+digits-length n = rw (digits-last 19 n, last-length (places n) n)
+
+-- the last byte first, then those before it
+pub sets-last : (l xs : List ℕ) (at d : ℕ) → sets (set l (at + length xs) d) at xs ≡ sets l at (xs ++ (d ∷ []))
+sets-last l [] at d = rw add-zero
+sets-last l (x ∷ xs) at d =
+    rw (← sets-last (set l at x) xs (suc at) d, add-suc, suc-add, set-comm l (suc (at + length xs)) at d x (λ e. omega arith))
+
+pub sets-append : (l xs ys : List ℕ) (at : ℕ) → sets l at (xs ++ ys) ≡ sets (sets l at xs) (at + length xs) ys
+sets-append l [] ys at = rw add-zero
+sets-append l (x ∷ xs) ys at = rw (sets-append (set l at x) xs ys (suc at), add-suc, suc-add)
+
+-- two writes, one after the other, are one
+pub wrote-both : {l m n : List ℕ} {at p q : ℕ} {xs ys : List ℕ} → Wrote l at xs m p → Wrote m p ys n q → Wrote l at (xs ++ ys) n q
+wrote-both {l} {m} {n} {at} {p} {q} {xs} {ys} a b =
+    record {
+      place = omega (arith, a .place, b .place, length-append xs ys);
+      stand = b .stand ∙ rw (a .stand, a .place) (sym (sets-append l xs ys at));
+    }
+
+-- a buffer keeps its length, and every byte outside of what was put there
+pub wrote-length : {l m : List ℕ} {at p : ℕ} {xs : List ℕ} → Wrote l at xs m p → length m ≡ length l
+wrote-length {l} {m} {at} {p} {xs} a = ap length (a .stand) ∙ length-sets l at xs
+
+-- what holds of the loop that counts: k places are counted, and those of `rest` are the others
+pub record Counting (n k rest : ℕ) : Type 0 where
+  pub some-counted : 1 ≤ k
+  pub few : k ≤ 20
+  pub small : rest < 10 ^ (21 - k)
+  pub others : places n ≡ (k - 1) + placesIn (20 - k) rest
+
+pub counting-first : (n : ℕ) → n < 2 ^ 64 → Counting n 1 n
+counting-first n h = record { some-counted = omega arith; few = omega arith; small = omega arith; others = omega arith }
+
+pub counting-next : (n k rest : ℕ) → Counting n k rest → 10 ≤ rest → Counting n (k + 1) (rest / 10)
+counting-next n k rest c h =
+    record {
+      some-counted = omega arith;
+      few = more;
+      small = omega (arith, rw (powers, pow-suc) at (c .small));
+      others = omega (arith, c .others, rw fuel at (c .others), places-more (20 - (k + 1)) rest h);
+    }
+  where
+    more : k + 1 ≤ 20
+    more = ⊎-elim (λ (l : k + 1 ≤ 20). l) (λ (g : 20 < k + 1). let one : 21 - k ≡ 1 = omega (arith, c .few) in absurd (omega (arith, rw one at (c .small)))) (le-or-lt (k + 1) 20)
+
+    powers : 21 - k ≡ suc (21 - (k + 1))
+    powers = omega (arith, more)
+
+    fuel : 20 - k ≡ suc (20 - (k + 1))
+    fuel = omega (arith, more)
+
+pub counting-last : (n k rest : ℕ) → Counting n k rest → rest < 10 → k ≡ places n
+counting-last n k rest c h = omega (arith, c .others, c .some-counted, places-one (20 - k) rest h)
+
+-- what holds of the loop that fills: what is left to fill, put over what stands there, makes the whole
+pub filling-next : (out : List ℕ) (at i rest : ℕ) → at < i → sets (set out (i - 1) (48 + rest % 10)) at (lastDigits ((i - 1) - at) (rest / 10)) ≡ sets out at (lastDigits (i - at) rest)
+unfolding lastDigits
+filling-next out at i rest h =
+    let e : i - at ≡ suc ((i - 1) - at) = omega arith in
+    let p : i - 1 ≡ at + length (lastDigits ((i - 1) - at) (rest / 10)) = omega (arith, last-length ((i - 1) - at) (rest / 10)) in
+    rw e (ap (λ (x : ℕ). sets (set out x (48 + rest % 10)) at (lastDigits ((i - 1) - at) (rest / 10))) p ∙ sets-last out (lastDigits ((i - 1) - at) (rest / 10)) at (48 + rest % 10))
+
+pub four-bytes : (l : List ℕ) (at a b c d : ℕ) → Wrote l at (a ∷ b ∷ c ∷ d ∷ []) (set (set (set (set l at a) (at + 1) b) (at + 2) c) (at + 3) d) (at + 4)
+four-bytes l at a b c d =
+    let one : at + 1 ≡ suc at = omega arith in
+    let two : at + 2 ≡ suc (suc at) = omega arith in
+    let three : at + 3 ≡ suc (suc (suc at)) = omega arith in
+    record { place = refl; stand = rw (one, two, three) }
+
+-- all the digits, and the byte after them
+pub digits-then : (l : List ℕ) (at n then : ℕ) → Wrote l at (digits n ++ (then ∷ [])) (set (sets l at (lastDigits (places n) n)) (at + places n) then) (at + places n + 1)
+digits-then l at n then =
+    record {
+      place = omega (arith, length-append (digits n) (then ∷ []), digits-length n);
+      stand = rw (sets-append l (digits n) (then ∷ []) at, digits-length n, digits-last 19 n);
+    }
+
+pub digits-most : (n : ℕ) → length (digits n) ≤ 20
+digits-most n = omega (arith, digits-length n, places-most 19 n)
+
+pub put-whole : (l m : List ℕ) (at n then p : ℕ) → p ≡ places n → m ≡ sets l at (lastDigits (at + p - at) n) → Wrote l at (digits n ++ (then ∷ [])) (set m (at + p) then) (at + p + 1)
+put-whole l m at n then p e f =
+    let q : at + places n - at ≡ places n = omega arith in
+    rw (f, e, q) (digits-then l at n then)
+
+-- what is put after what was put has as much less room
+pub room-left : {l m : List ℕ} {at p : ℕ} {xs : List ℕ} (most k : ℕ) → Wrote l at xs m p → length xs ≤ most → at + (most + k) ≤ length l → p + k ≤ length m
+room-left most k w h r = omega (arith, w .place, wrote-length w)
+
+abbrev pub ended : ℕ → ℕ → List ℕ
+ended n then = digits n ++ (then ∷ [])
+
+pub ended-most : (n then : ℕ) → length (ended n then) ≤ 21
+ended-most n then = omega (arith, length-append (digits n) (then ∷ []), digits-most n)
+
+pub both-most : (xs ys : List ℕ) (a b : ℕ) → length xs ≤ a → length ys ≤ b → length (xs ++ ys) ≤ a + b
+both-most xs ys a b h k = omega (arith, length-append xs ys)
+
+abbrev pub front : ℕ → ℕ → List ℕ
+front line answer = ended line 32 ++ ended answer 32
+
+pub front-most : (line answer : ℕ) → length (front line answer) ≤ 42
+front-most line answer = both-most (ended line 32) (ended answer 32) 21 21 (ended-most line 32) (ended-most answer 32)
+
+pub shown-granted : (line : ℕ) (a : Shown) (sum total : ℕ) → a .granted ≡ true
+    → ((front line (a .answer) ++ ended (a .queue) 32) ++ ended (a .slice) 32) ++ sums sum total ≡ shownLine line a sum total
+unfolding shownLine answerLine sums
+shown-granted line a sum total g = rw g (simp append-assoc)
+
+pub shown-other : (line : ℕ) (a : Shown) (sum total : ℕ) → a .granted ≡ false
+    → (front line (a .answer) ++ dashes) ++ sums sum total ≡ shownLine line a sum total
+unfolding shownLine answerLine sums
+shown-other line a sum total g = rw g (simp append-assoc)
+
+pub sums-most : (sum total : ℕ) → length (sums sum total) ≤ 42
+unfolding sums
+sums-most sum total = both-most (ended sum 32) (ended total 10) 21 21 (ended-most sum 32) (ended-most total 10)
+
+-- six numbers of twenty digits, and a byte after each
+pub shown-most : (line : ℕ) (a : Shown) (sum total : ℕ) → length (shownLine line a sum total) ≤ 126
+shown-most line a sum total =
+    ⊎-elim (λ (g : a .granted ≡ true). rw (← shown-granted line a sum total g) granted-most)
+    (λ (g : a .granted ≡ false). rw (← shown-other line a sum total g) other-most) (either (a .granted))
+  where
+    granted-most : length (((front line (a .answer) ++ ended (a .queue) 32) ++ ended (a .slice) 32) ++ sums sum total) ≤ 126
+    granted-most =
+        both-most ((front line (a .answer) ++ ended (a .queue) 32) ++ ended (a .slice) 32) (sums sum total) 84 42
+        (both-most (front line (a .answer) ++ ended (a .queue) 32) (ended (a .slice) 32) 63 21
+        (both-most (front line (a .answer)) (ended (a .queue) 32) 42 21 (front-most line (a .answer)) (ended-most (a .queue) 32))
+        (ended-most (a .slice) 32)) (sums-most sum total)
+
+    other-most : length ((front line (a .answer) ++ dashes) ++ sums sum total) ≤ 126
+    other-most =
+        let h : length ((front line (a .answer) ++ dashes) ++ sums sum total) ≤ 46 + 42 =
+        both-most (front line (a .answer) ++ dashes) (sums sum total) 46 42
+        (both-most (front line (a .answer)) dashes 42 4 (front-most line (a .answer)) (omega arith)) (sums-most sum total) in
+        omega arith
+
+-- what stands in the buffer up to the next place
+pub wrote-take : {l m : List ℕ} {at p : ℕ} {xs : List ℕ} → Wrote l at xs m p → p ≤ length l → take p m ≡ take at l ++ xs
+wrote-take {l} {m} {at} {p} {xs} w h =
+    let fits : at + length xs ≤ length l = omega (arith, w .place) in
+    let long : length (take at l ++ xs) ≡ p = omega (arith, w .place, length-append (take at l) xs, length-take-le at l (omega arith)) in
+    rw (w .stand, sets-eq xs l at fits) (take-at (take at l ++ xs) (drop (at + length xs) l) p long)

@@ -1,0 +1,9 @@
+pub mod Cutting
+pub mod Decimals
+pub mod Fields
+pub mod Digits
+pub mod Decimal
+pub mod RoundTrip
+pub mod Pieces
+pub mod Working
+pub mod Turning

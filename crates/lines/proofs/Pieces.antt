@@ -1,0 +1,101 @@
+-- Input worked piece by piece prints what the whole input prints: a line taken from the front, an unfinished line closed by a newline at the
+-- end of input, and an overlong one cut short all leave what is printed as it is.
+use mathlib.Core.Path.{_≡_, refl, sym, ap, _∙_}
+use mathlib.Core.Bool.{Bool, true, false, cond}
+use mathlib.Core.List.{List, [], _∷_, _++_, append-assoc, append-nil}
+use mathlib.Core.Logic.{⊎-elim}
+use Prim.Native.Nat.{ℕ, zero, suc, _+_, _-_, _≤_, _<_}
+use native.Mathlib.Nat.{le-of-suc-le-suc}
+use native.Mathlib.Numerals.{add-one}
+use native.Mathlib.Omega.{arith}
+use lib.Dec.{eqb}
+use lib.ListN.{length, take, drop, getD, length-append, length-take, length-drop}
+use lib.Seq.{drop-drop, take-all, drop-cons, drop-length}
+use borrow.Author.Tests.{eqb-true}
+use Rattle.laws.proofs.Tests.{clash, le-or-lt}
+use Rattle.share.specs.declared.Table.{Table}
+use Rattle.share.specs.Events.{emptyTable}
+use Rattle.share.specs.Runs.{step}
+use Rattle.lines.specs.declared.Line.{Line}
+use Rattle.lines.specs.declared.Line.the-variants.{Known, Broken}
+use Rattle.lines.specs.Cut.{newline, part, cutAt, nextBefore, before, linesOf}
+use Rattle.lines.specs.Grammar.{readLine}
+use Rattle.lines.specs.Print.{header, answerLine, printed, after, answers, printsFrom, prints}
+use Rattle.lines.specs.Pieces.{Unfinished, Worked}
+use Rattle.lines.proofs.Cutting.{before-length, before-mark, before-other, cut-more}
+use Rattle.lines.proofs.Fields.{overlong}
+
+module _ (line : ℕ) (t : Table) where
+  -- a whole line at the front is answered first
+  pub first-line : (l r : List ℕ) → length (before newline l) < length l
+      → printsFrom line t (l ++ r)
+      ≡ printed line t (readLine (before newline l)) ++ printsFrom (suc line) (after t (readLine (before newline l))) (drop (suc (length (before newline l))) l ++ r)
+  unfolding printsFrom answers
+  first-line l r h = rw (cut-more newline [] l r h)
+
+-- bytes with no newline stand in front of the first line of what follows
+abbrev prepend : List ℕ → List (List ℕ) → List (List ℕ)
+prepend p [] = p ∷ []
+prepend p (l ∷ ls) = (p ++ l) ∷ ls
+
+one-more : (b : ℕ) (p : List ℕ) (ls : List (List ℕ)) → part false b (prepend p ls) ≡ prepend (b ∷ p) ls
+one-more b p [] = refl
+one-more b p (l ∷ ls) = refl
+
+lone : (b : ℕ) (ls : List (List ℕ)) → part false b ls ≡ prepend (b ∷ []) ls
+lone b [] = refl
+lone b (l ∷ ls) = refl
+
+unfinished-tail : (b : ℕ) (p : List ℕ) → Unfinished (b ∷ p) → (eqb b newline ≡ false) × Unfinished p
+unfolding before
+unfinished-tail b p u = by (eqb b newline) u
+  where
+    by : (t : Bool) → length (nextBefore t b (before newline p)) ≡ suc (length p) → (t ≡ false) × Unfinished p
+    by true u = absurd (omega arith)
+    by false u = (refl, omega arith)
+
+pub lines-unfinished : (b : ℕ) (p r : List ℕ) → Unfinished (b ∷ p) → linesOf ((b ∷ p) ++ r) ≡ prepend (b ∷ p) (linesOf r)
+unfolding cutAt
+lines-unfinished b [] r u = rw (unfinished-tail b [] u .0) (lone b (linesOf r))
+lines-unfinished b (c ∷ p) r u =
+    let v = unfinished-tail b (c ∷ p) u in
+    rw (v .0, lines-unfinished c p r (v .1)) (one-more b (c ∷ p) (linesOf r))
+
+-- "a last line without newline counts": at the end of input a newline closes it
+pub closed : (line : ℕ) (t : Table) (l : List ℕ) → 0 < length l → Unfinished l → printsFrom line t (l ++ (newline ∷ [])) ≡ printsFrom line t l
+unfolding printsFrom cutAt
+closed line t [] h u = absurd (omega arith)
+closed line t (b ∷ p) h u =
+    let open-line : linesOf (b ∷ p) ≡ (b ∷ p) ∷ [] = sym (ap linesOf (append-nil (b ∷ p))) ∙ lines-unfinished b p [] u in
+    ap (answers line t) (lines-unfinished b p (newline ∷ []) u ∙ rw append-nil (sym open-line))
+
+pub unfinished-take : (n : ℕ) (l : List ℕ) → Unfinished l → Unfinished (take n l)
+unfolding before
+unfinished-take zero l u = refl
+unfinished-take (suc n) [] u = refl
+unfinished-take (suc n) (b ∷ l) u =
+    let v = unfinished-tail b l u in
+    rw (v .0) (ap suc (unfinished-take n l (v .1)))
+
+-- an overlong line is answered 15 whatever its bytes
+overlong-first : (line : ℕ) (t : Table) (p q r : List ℕ) → Unfinished p → Unfinished q → 40 < length p → 40 < length q → printsFrom line t (p ++ r) ≡ printsFrom line t (q ++ r)
+unfolding printsFrom answers
+overlong-first line t [] q r u v h k = absurd (omega arith)
+overlong-first line t (b ∷ p) [] r u v h k = absurd (omega arith)
+overlong-first line t (b ∷ p) (c ∷ q) r u v h k = rw (lines-unfinished b p r u, lines-unfinished c q r v) (by (linesOf r))
+  where
+    long : (x l : List ℕ) → 40 < length x → readLine (x ++ l) ≡ Broken
+    long x l h = overlong (x ++ l) (omega (arith, length-append x l))
+
+    by : (ls : List (List ℕ)) → answers line t (prepend (b ∷ p) ls) ≡ answers line t (prepend (c ∷ q) ls)
+    by [] = rw (overlong (b ∷ p) h, overlong (c ∷ q) k)
+    by (l ∷ ls) = rw (long (b ∷ p) l h, long (c ∷ q) l k)
+
+-- "an overlong one too": of an unfinished line 41 bytes are enough
+pub cut-short : (line : ℕ) (t : Table) (l r : List ℕ) → Unfinished l → printsFrom line t (take 41 l ++ r) ≡ printsFrom line t (l ++ r)
+cut-short line t l r u =
+    ⊎-elim (λ (h : length l ≤ 41). rw (take-all 41 l h))
+    (λ (h : 41 < length l).
+    let n : length (take 41 l) ≡ 41 = simp length-take (omega arith) in
+    overlong-first line t (take 41 l) l r (unfinished-take 41 l u) u (omega arith) (omega arith))
+    (le-or-lt (length l) 41)

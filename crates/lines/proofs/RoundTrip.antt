@@ -1,0 +1,218 @@
+-- Document 01's lines and their events, both ways: an event with numbers of up to five digits, written as a line, reads back as that event;
+-- and a line that reads as an event is the line which that event is written as. So no other bytes are an event.
+use mathlib.Core.Path.{_≡_, refl, sym, ap, _∙_}
+use mathlib.Core.Bool.{Bool, true, false, cond, not, _&&_}
+use mathlib.Core.List.{List, [], _∷_, _++_, append-assoc, append-nil, map}
+use mathlib.Core.Option.{Option, none, some}
+use mathlib.Core.Logic.{⊎-elim}
+use Prim.Native.Nat.{ℕ, zero, suc, _+_, _*_, _≤_, _<_}
+use native.Mathlib.Omega.{arith}
+use lib.Dec.{leb, eqb}
+use lib.ListN.{length, length-append}
+use borrow.Author.Tests.{le-leb, lt-leb, leb-true, eqb-true, eqb-false, ne-eqb}
+use Rattle.share.specs.declared.Event.{Event}
+use Rattle.share.specs.declared.Event.the-variants.{Fresh, Join, Leave, Reweight, Length, Grant, Return}
+use Rattle.laws.specs.Lists.{all}
+use Rattle.laws.proofs.Tests.{clash, either, le-or-lt, and-left, and-right, and-both}
+use Rattle.lines.specs.declared.Line.{Line}
+use Rattle.lines.specs.declared.Line.the-variants.{Known, Broken}
+use Rattle.lines.specs.Cut.{space, part, cutAt, before, fieldsOf}
+use Rattle.lines.specs.Decimal.{digit, decimal, digits}
+use Rattle.lines.specs.Grammar.{letterS, letterJ, letterL, letterW, letterR, letterG, letterU, returnOf, eventOf, both, numbers, eventIf, eventNamed, eventIn, readLine, spaced, mark, lineOf, Small, Written}
+use Rattle.lines.proofs.Cutting.{cut-first}
+use Rattle.lines.proofs.Decimal.{all-digits, few-digits, decimal-digits, decimal-only}
+
+-- bytes among which there is no space
+abbrev clear : List ℕ → Bool
+clear = all (λ (b : ℕ). not (eqb b space))
+
+digits-clear : (f : List ℕ) → all digit f ≡ true → clear f ≡ true
+digits-clear [] h = refl
+digits-clear (b ∷ f) h =
+    let low : 48 ≤ b = leb-true 48 b (and-left (leb 48 b) (leb b 57) (and-left (digit b) (all digit f) h)) in
+    let other : not (eqb b space) ≡ true = rw (ne-eqb b space (λ e. omega arith)) in
+    and-both other (digits-clear f (and-right (digit b) (all digit f) h))
+
+cut-clear : (f r : List ℕ) → clear f ≡ true → fieldsOf (f ++ (space ∷ r)) ≡ f ∷ fieldsOf r
+unfolding cutAt
+cut-clear [] r h = refl
+cut-clear (b ∷ f) r h = by (eqb b space) (and-left (not (eqb b space)) (clear f) h) (cut-clear f r (and-right (not (eqb b space)) (clear f) h))
+  where
+    by : (t : Bool) → not t ≡ true → fieldsOf (f ++ (space ∷ r)) ≡ f ∷ fieldsOf r → part t b (fieldsOf (f ++ (space ∷ r))) ≡ (b ∷ f) ∷ fieldsOf r
+    by true n ih = absurd (clash n refl)
+    by false n ih = rw ih
+
+last-clear : (f : List ℕ) → clear f ≡ true → fieldsOf (f ++ []) ≡ f ∷ []
+unfolding cutAt
+last-clear [] h = refl
+last-clear (b ∷ f) h = by (eqb b space) (and-left (not (eqb b space)) (clear f) h) (last-clear f (and-right (not (eqb b space)) (clear f) h))
+  where
+    by : (t : Bool) → not t ≡ true → fieldsOf (f ++ []) ≡ f ∷ [] → part t b (fieldsOf (f ++ [])) ≡ (b ∷ f) ∷ []
+    by true n ih = absurd (clash n refl)
+    by false n ih = rw ih
+
+abbrev written : List ℕ → List (List ℕ)
+written [] = []
+written (n ∷ ns) = digits n ∷ written ns
+
+cut-spaced : (f : List ℕ) (ns : List ℕ) → clear f ≡ true → fieldsOf (f ++ spaced ns) ≡ f ∷ written ns
+cut-spaced f [] h = last-clear f h
+cut-spaced f (n ∷ ns) h = cut-clear f (digits n ++ spaced ns) h ∙ rw (cut-spaced (digits n) ns (digits-clear (digits n) (all-digits 19 n)))
+
+abbrev AllSmall : List ℕ → Type 0
+AllSmall [] = Unit {0}
+AllSmall (n ∷ ns) = Small n × AllSmall ns
+
+numbers-written : (ns : List ℕ) → AllSmall ns → numbers (written ns) ≡ some ns
+unfolding numbers
+numbers-written [] h = refl
+numbers-written (n ∷ ns) h = rw (decimal-digits n (h .0), numbers-written ns (h .1))
+
+spaced-length : (ns : List ℕ) → AllSmall ns → length (spaced ns) ≤ 6 * length ns
+spaced-length [] h = omega arith
+spaced-length (n ∷ ns) h = omega (arith, length-append (digits n) (spaced ns), few-digits n (h .0), spaced-length ns (h .1))
+
+reads : (k : ℕ) (ns : List ℕ) → not (eqb k space) ≡ true → AllSmall ns → length ns ≤ 3 → readLine (k ∷ spaced ns) ≡ eventOf k ns
+unfolding readLine eventIn eventNamed eventIf
+reads k ns c h l =
+    let short : length (k ∷ spaced ns) ≤ 40 = omega (arith, spaced-length ns h) in
+    rw (le-leb (length (k ∷ spaced ns)) 40 short, cut-spaced (k ∷ []) ns (and-both c refl), numbers-written ns h)
+
+pub reads-back : (e : Event) → Written e → readLine (lineOf e) ≡ Known e
+unfolding lineOf Written eventOf
+reads-back (Fresh limit) h = reads letterS (limit ∷ []) refl (h, tt) (omega arith)
+reads-back (Join queue weight length) h = reads letterJ (queue ∷ weight ∷ length ∷ []) refl (h .0, (h .1, (h .2, tt))) (omega arith)
+reads-back (Leave queue) h = reads letterL (queue ∷ []) refl (h, tt) (omega arith)
+reads-back (Reweight queue weight length) h = reads letterW (queue ∷ weight ∷ length ∷ []) refl (h .0, (h .1, (h .2, tt))) (omega arith)
+reads-back (Length queue length) h = reads letterR (queue ∷ length ∷ []) refl (h .0, (h .1, tt)) (omega arith)
+reads-back Grant h = reads letterG [] refl tt (omega arith)
+reads-back (Return queue used false) h = reads letterU (queue ∷ used ∷ 0 ∷ []) refl (h .0, (h .1, (omega arith, tt))) (omega arith)
+reads-back (Return queue used true) h = reads letterU (queue ∷ used ∷ 1 ∷ []) refl (h .0, (h .1, (omega arith, tt))) (omega arith)
+
+-- fields put together again make the line
+abbrev joined : List (List ℕ) → List ℕ
+joined [] = []
+joined (f ∷ fs) = space ∷ (f ++ joined fs)
+
+abbrev whole : List (List ℕ) → List ℕ
+whole [] = []
+whole (f ∷ fs) = f ++ joined fs
+
+whole-cut : (l : List ℕ) → whole (fieldsOf l) ≡ l
+unfolding cutAt
+whole-cut [] = refl
+whole-cut (b ∷ l) = let p = cut-first space l in rw (p .1) (by (eqb b space) refl (rw (p .1) at (whole-cut l)))
+  where
+    by : (t : Bool) → eqb b space ≡ t → whole (before space l ∷ cut-first space l .0) ≡ l → whole (part t b (before space l ∷ cut-first space l .0)) ≡ b ∷ l
+    by true e ih = rw (ih, eqb-true b space e)
+    by false e ih = rw ih
+
+numbers-only : (fs : List (List ℕ)) (ns : List ℕ) → numbers fs ≡ some ns → (joined fs ≡ spaced ns) × AllSmall ns
+unfolding numbers
+numbers-only [] ns h = by ns h
+  where
+    by : (ns : List ℕ) → some [] ≡ some ns → (_≡_ {A = List ℕ} [] (spaced ns)) × AllSmall ns
+    by [] e = (refl, tt)
+    by (n ∷ ns) e = let z : _≡_ {A = ℕ} 0 1 = cc in absurd (omega arith)
+numbers-only (f ∷ fs) ns h = by (decimal f) refl (numbers fs) (numbers-only fs) refl ns h
+  where
+    by : (o : Option ℕ) → decimal f ≡ o → (q : Option (List ℕ)) → ((ms : List ℕ) → numbers fs ≡ some ms → (joined fs ≡ spaced ms) × AllSmall ms) → numbers fs ≡ q
+        → (ns : List ℕ) → both o q ≡ some ns → (space ∷ (f ++ joined fs) ≡ spaced ns) × AllSmall ns
+    by none d q ih e ns h = let z : _≡_ {A = ℕ} 0 1 = cc in absurd (omega arith)
+    by (some v) d none ih e ns h = let z : _≡_ {A = ℕ} 0 1 = cc in absurd (omega arith)
+    by (some v) d (some ms) ih e [] h = let z : _≡_ {A = ℕ} 0 1 = cc in absurd (omega arith)
+    by (some v) d (some ms) ih e (n ∷ ns) h =
+        let same : v ≡ n = cc in
+        let rest : ms ≡ ns = cc in
+        let small : v < 100000 = decimal-only f v d .1 in
+        (rw (← same, ← rest, decimal-only f v d .0, ih ms e .0), (rw same at small, rw rest at (ih ms e .1)))
+
+-- a letter and its numbers make an event only as the grammar lists them
+abbrev Is : ℕ → List ℕ → Event → Type 0
+Is k ns e = (k ∷ spaced ns ≡ lineOf e) × Written e
+
+marked : (c : ℕ) → c ≤ 1 → mark (eqb c 1) ≡ c
+marked c h = by (eqb c 1) refl
+  where
+    by : (t : Bool) → eqb c 1 ≡ t → mark t ≡ c
+    by true e = sym (eqb-true c 1 e)
+    by false e = omega (arith, eqb-false c 1 e)
+
+never : (e : Event) → Broken ≡ Known e → ⊥
+never e h = let z : _≡_ {A = ℕ} 0 1 = cc in omega arith
+
+event-only : (k : ℕ) (ns : List ℕ) (e : Event) → AllSmall ns → eventOf k ns ≡ Known e → Is k ns e
+unfolding eventOf lineOf Written
+event-only k [] e s h = grant (eqb k letterG) refl h
+  where
+    grant : (t : Bool) → eqb k letterG ≡ t → cond t (Known Grant) Broken ≡ Known e → Is k [] e
+    grant true t h = let x : Grant ≡ e = cc in rw (← x, eqb-true k letterG t) (refl, tt)
+    grant false t h = absurd (never e h)
+event-only k (a ∷ []) e s h = fresh (eqb k letterS) refl h
+  where
+    leave : (t : Bool) → eqb k letterL ≡ t → cond t (Known (Leave a)) Broken ≡ Known e → Is k (a ∷ []) e
+    leave true t h = let x : Leave a ≡ e = cc in rw (← x, eqb-true k letterL t) (refl, s .0)
+    leave false t h = absurd (never e h)
+
+    fresh : (t : Bool) → eqb k letterS ≡ t → cond t (Known (Fresh a)) (cond (eqb k letterL) (Known (Leave a)) Broken) ≡ Known e → Is k (a ∷ []) e
+    fresh true t h = let x : Fresh a ≡ e = cc in rw (← x, eqb-true k letterS t) (refl, s .0)
+    fresh false t h = leave (eqb k letterL) refl h
+event-only k (a ∷ b ∷ []) e s h = size (eqb k letterR) refl h
+  where
+    size : (t : Bool) → eqb k letterR ≡ t → cond t (Known (Length a b)) Broken ≡ Known e → Is k (a ∷ b ∷ []) e
+    size true t h = let x : Length a b ≡ e = cc in rw (← x, eqb-true k letterR t) (refl, (s .0, s .1 .0))
+    size false t h = absurd (never e h)
+event-only k (a ∷ b ∷ c ∷ []) e s h = join (eqb k letterJ) refl h
+  where
+    early : (t : Bool) → leb c 1 ≡ t → k ≡ letterU → cond t (Known (Return a b (eqb c 1))) Broken ≡ Known e → Is k (a ∷ b ∷ c ∷ []) e
+    early true t u h = let x : Return a b (eqb c 1) ≡ e = cc in rw (← x, u, marked c (leb-true c 1 t)) (refl, (s .0, s .1 .0))
+    early false t u h = absurd (never e h)
+
+    returning : (t : Bool) → eqb k letterU ≡ t → cond t (returnOf a b c) Broken ≡ Known e → Is k (a ∷ b ∷ c ∷ []) e
+    returning true t h = early (leb c 1) refl (eqb-true k letterU t) h
+    returning false t h = absurd (never e h)
+
+    reweight : (t : Bool) → eqb k letterW ≡ t → cond t (Known (Reweight a b c)) (cond (eqb k letterU) (returnOf a b c) Broken) ≡ Known e → Is k (a ∷ b ∷ c ∷ []) e
+    reweight true t h = let x : Reweight a b c ≡ e = cc in rw (← x, eqb-true k letterW t) (refl, (s .0, s .1 .0, s .1 .1 .0))
+    reweight false t h = returning (eqb k letterU) refl h
+
+    join : (t : Bool) → eqb k letterJ ≡ t → cond t (Known (Join a b c)) (cond (eqb k letterW) (Known (Reweight a b c)) (cond (eqb k letterU) (returnOf a b c) Broken)) ≡ Known e
+        → Is k (a ∷ b ∷ c ∷ []) e
+    join true t h = let x : Join a b c ≡ e = cc in rw (← x, eqb-true k letterJ t) (refl, (s .0, s .1 .0, s .1 .1 .0))
+    join false t h = reweight (eqb k letterW) refl h
+event-only k (a ∷ b ∷ c ∷ d ∷ ns) e s h = absurd (never e h)
+
+named-only : (name : List ℕ) (fs : List (List ℕ)) (e : Event) → eventNamed name (numbers fs) ≡ Known e → (name ++ joined fs ≡ lineOf e) × Written e
+unfolding eventNamed eventIf
+named-only [] fs e h = absurd (never e h)
+named-only (k ∷ []) fs e h = by (numbers fs) refl h
+  where
+    by : (o : Option (List ℕ)) → numbers fs ≡ o → eventIf k o ≡ Known e → (k ∷ joined fs ≡ lineOf e) × Written e
+    by none n h = absurd (never e h)
+    by (some ns) n h = let p = numbers-only fs ns n in rw (p .0) (event-only k ns e (p .1) h)
+named-only (k ∷ j ∷ name) fs e h = absurd (never e h)
+
+fields-only : (fs : List (List ℕ)) (e : Event) → eventIn fs ≡ Known e → (whole fs ≡ lineOf e) × Written e
+unfolding eventIn
+fields-only [] e h = absurd (never e h)
+fields-only (name ∷ fs) e h = named-only name fs e h
+
+pub only-lines : (l : List ℕ) (e : Event) → readLine l ≡ Known e → (l ≡ lineOf e) × Written e
+unfolding readLine
+only-lines l e h = by (leb (length l) 40) h
+  where
+    by : (t : Bool) → cond t (eventIn (fieldsOf l)) Broken ≡ Known e → (l ≡ lineOf e) × Written e
+    by true h = rw whole-cut at (fields-only (fieldsOf l) e h)
+    by false h = absurd (never e h)
+
+-- no line of an event is longer than 40 bytes: the longest that reads at all has 19
+pub lines-short : (e : Event) → Written e → length (lineOf e) ≤ 19
+unfolding lineOf Written
+lines-short (Fresh limit) h = omega (arith, spaced-length (limit ∷ []) (h, tt))
+lines-short (Join queue weight size) h = omega (arith, spaced-length (queue ∷ weight ∷ size ∷ []) (h .0, (h .1, (h .2, tt))))
+lines-short (Leave queue) h = omega (arith, spaced-length (queue ∷ []) (h, tt))
+lines-short (Reweight queue weight size) h = omega (arith, spaced-length (queue ∷ weight ∷ size ∷ []) (h .0, (h .1, (h .2, tt))))
+lines-short (Length queue size) h = omega (arith, spaced-length (queue ∷ size ∷ []) (h .0, (h .1, tt)))
+lines-short Grant h = omega arith
+lines-short (Return queue used false) h = omega (arith, spaced-length (queue ∷ used ∷ 0 ∷ []) (h .0, (h .1, (omega arith, tt))))
+lines-short (Return queue used true) h = omega (arith, spaced-length (queue ∷ used ∷ 1 ∷ []) (h .0, (h .1, (omega arith, tt))))

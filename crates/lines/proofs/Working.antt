@@ -1,0 +1,112 @@
+-- What holds of the loop over the lines of a piece: whatever comes after it, the piece prints what is written and then what is left of it.
+use mathlib.Core.Path.{_≡_, refl, sym, ap, _∙_}
+use mathlib.Core.Bool.{true, false}
+use mathlib.Core.List.{List, [], _∷_, _++_, append-assoc}
+use mathlib.Core.Logic.{_⊎_}
+use Prim.Native.Nat.{ℕ, suc, _+_, _-_, _^_, _≤_, _<_}
+use native.Mathlib.Numerals.{add-one}
+use native.Mathlib.Omega.{arith}
+use lib.ListN.{length, take, drop, length-drop}
+use lib.Seq.{drop-drop}
+use Rattle.laws.proofs.Tests.{clash}
+use Rattle.share.specs.declared.Answer.{Answer}
+use Rattle.share.specs.declared.Answer.the-variants.{Accepted, Granted, Reported, Refused}
+use Rattle.share.specs.declared.Event.{Event}
+use Rattle.share.specs.declared.Reply.{Reply}
+use Rattle.share.specs.declared.Table.{Table}
+use Rattle.share.specs.Answers.{number}
+use Rattle.share.specs.Runs.{step}
+use Rattle.lines.specs.declared.Done.{Done}
+use Rattle.lines.specs.declared.Line.{Line}
+use Rattle.lines.specs.declared.Line.the-variants.{Known, Broken}
+use Rattle.lines.specs.declared.writing.Shown.{Shown}
+use Rattle.lines.specs.Cut.{newline, before}
+use Rattle.lines.specs.Grammar.{readLine}
+use Rattle.lines.specs.Places.{Wrote}
+use Rattle.lines.specs.Print.{answerLine, shownLine, replyLine, whoIn, sliceIn, printed, after, printsFrom}
+use Rattle.lines.specs.Pieces.{plainly, shownAs, Unfinished, Worked}
+use Rattle.lines.proofs.Cutting.{before-length, before-take, found-nowhere}
+use Rattle.lines.proofs.Digits.{wrote-length, wrote-take, shown-most}
+use Rattle.lines.proofs.Pieces.{first-line}
+
+-- what the writer is handed for a line is what the line prints
+shown-reply : (line : ℕ) (a : Answer) (sum total : ℕ) → shownLine line (shownAs a) sum total ≡ answerLine line (number a) (whoIn a) (sliceIn a) sum total
+unfolding shownLine
+shown-reply line Accepted sum total = refl
+shown-reply line (Granted queue slice) sum total = refl
+shown-reply line (Reported denominator) sum total = refl
+shown-reply line (Refused why) sum total = refl
+
+known-line : (line : ℕ) (t : Table) (event : Event) → shownLine line (shownAs (step t event .answer)) (step t event .table .sum) (step t event .table .total) ≡ printed line t (Known event)
+unfolding printed
+known-line line t event = shown-reply line (step t event .answer) (step t event .table .sum) (step t event .table .total)
+
+broken-line : (line : ℕ) (t : Table) → shownLine line (plainly 15) (t .sum) (t .total) ≡ printed line t Broken
+unfolding printed shownLine
+broken-line line t = refl
+
+pub record Working (line : ℕ) (t : Table) (input out₀ out : List ℕ) (u : Table) (next i written : ℕ) : Type 0 where
+  pub within : i ≤ length input
+  pub room : written ≤ length out
+  pub same : length out ≡ length out₀
+  pub numbered : next < 2 ^ 64
+  pub prints : (rest : List ℕ) → printsFrom line t (input ++ rest) ≡ take written out ++ printsFrom next u (drop i input ++ rest)
+
+pub working-first : (line : ℕ) (t : Table) (input out : List ℕ) → line < 2 ^ 64 → Working line t input out out t line 0 0
+working-first line t input out h = record { within = omega arith; room = omega arith; same = refl; numbered = h; prints = λ rest. refl }
+
+module _ (line : ℕ) (t : Table) (input out₀ out : List ℕ) (u : Table) (next i written : ℕ) (w : Working line t input out₀ out u next i written) where
+  module _ (e : ℕ) (o : List ℕ) (p : ℕ) (at : e ≡ i + length (before newline (drop i input))) (h : e < length input) where
+    the-line : take (e - i) (drop i input) ≡ before newline (drop i input)
+    the-line = let k : e - i ≡ length (before newline (drop i input)) = omega arith in rw k (before-take newline (drop i input))
+
+    -- one line more is answered: what it prints stands in the buffer, and the table is the one after it
+    module _ (l : Line) (read : l ≡ readLine (take (e - i) (drop i input))) (v : Table) (moved : v ≡ after u l) (a : Shown) (sum total : ℕ)
+        (bytes : shownLine next a sum total ≡ printed next u l) (x : Wrote out written (shownLine next a sum total) o p) (r : written + 126 ≤ length out) where
+      fits : p ≤ length out
+      fits = omega (arith, x .place, shown-most next a sum total)
+
+      prints-next : (rest : List ℕ) → take written out ++ printsFrom next u (drop i input ++ rest) ≡ take p o ++ printsFrom (next + 1) v (drop (e + 1) input ++ rest)
+      prints-next rest =
+          let inner : length (before newline (drop i input)) < length (drop i input) = omega (arith, length-drop i input) in
+          let past : i + suc (length (before newline (drop i input))) ≡ e + 1 = omega arith in
+          rw (first-line next u (drop i input) rest inner, drop-drop, past, wrote-take x fits, bytes, moved, rw the-line at read, append-assoc, add-one next)
+
+      next-turn : next + 1 < 2 ^ 64 → Working line t input out₀ o v (next + 1) (e + 1) p
+      next-turn n =
+          record {
+            within = omega arith;
+            room = omega (arith, wrote-length x, fits);
+            same = wrote-length x ∙ w .same;
+            numbered = n;
+            prints = λ rest. w .prints rest ∙ prints-next rest;
+          }
+
+    pub working-known : (l : Line) → l ≡ readLine (take (e - i) (drop i input)) → (event : Event) → l ≡ Known event → (reply : Reply) → reply ≡ step u event
+        → (a : Shown) → a ≡ shownAs (reply .answer) → Wrote out written (shownLine next a (reply .table .sum) (reply .table .total)) o p
+        → written + 126 ≤ length out → next + 1 < 2 ^ 64 → Working line t input out₀ o (reply .table) (next + 1) (e + 1) p
+    unfolding after
+    working-known l read event known reply is a shows x r n =
+        next-turn (Known event) (sym known ∙ read) (reply .table) (rw is) a (reply .table .sum) (reply .table .total) (rw (shows, is) (known-line next u event)) x r n
+
+    pub working-broken : (l : Line) → l ≡ readLine (take (e - i) (drop i input)) → l ≡ Broken
+        → (a : Shown) → a ≡ plainly 15 → Wrote out written (shownLine next a (u .sum) (u .total)) o p
+        → written + 126 ≤ length out → next + 1 < 2 ^ 64 → Working line t input out₀ o u (next + 1) (e + 1) p
+    unfolding after
+    working-broken l read broken a shows x r n = next-turn Broken (sym broken ∙ read) u refl a (u .sum) (u .total) (rw shows (broken-line next u)) x r n
+
+  pub end-within : (e : ℕ) → e ≡ i + length (before newline (drop i input)) → e ≤ length input
+  end-within e at = omega (arith, w .within, before-length newline (drop i input), length-drop i input)
+
+  -- what is left has no newline, or there is no room or number for its line
+  pub working-ended : Unfinished (drop i input) → Worked line t input out (record { read = i; written = written; ends = true; line = next; table = u })
+  working-ended s = record { within = w .within; room = w .room; prints = w .prints; ended = λ e. s; stopped = λ e. absurd (clash refl e) }
+
+  pub working-stopped : (length out < written + 126) ⊎ (next + 1 ≡ 2 ^ 64) → Worked line t input out (record { read = i; written = written; ends = false; line = next; table = u })
+  working-stopped s = record { within = w .within; room = w .room; prints = w .prints; ended = λ e. absurd (clash e refl); stopped = λ e. s }
+
+  pub at-last-line : i + length (before newline (drop i input)) ≡ length input → Unfinished (drop i input)
+  at-last-line e = omega (arith, length-drop i input, w .within)
+
+  pub at-end-of-piece : length input ≤ i → Unfinished (drop i input)
+  at-end-of-piece h = omega (arith, length-drop i input, found-nowhere newline input i (omega (arith, w .within)), w .within)

@@ -1,0 +1,17 @@
+-- `with_two` is the letter test of a line of two numbers.
+use mathlib.Core.Path.{_≡_}
+use borrow.Author.Tests.{eq-eqb, ne-eqb}
+use Rattle.lines.specs.Grammar.{eventOf}
+use Rattle.lines.proofs.reading.with_two.Statement.{statement}
+use Rattle.lines.proofs.reading.with_two.Tie as tie
+
+returns : tie.Need-returns
+unfolding eventOf
+returns c = simp (eq-eqb _ _ (c .if1 .taken))
+
+returns-2 : tie.Need-returns-2
+unfolding eventOf
+returns-2 c = simp (ne-eqb _ _ (c .if1 .left))
+
+pub with-two-spec : {M : Type 1} → statement M
+with-two-spec = tie.close (tie.spec returns returns-2)
