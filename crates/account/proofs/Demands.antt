@@ -5,18 +5,38 @@
 use mathlib.Core.Path.{_≡_}
 use mathlib.Core.Bool.{true, false}
 use mathlib.Core.List.{List, map}
-use mathlib.Core.Logic.{_≢_}
-use Prim.Native.Nat.{ℕ, _≤_, _<_}
+use mathlib.Core.Logic.{_≢_, _↔_}
+use mathlib.Core.Option.{none, some}
+use Prim.Native.Nat.{ℕ, _*_, _≤_, _<_}
 use lib.IntN.{ℤ, pos}
 use lib.ListN.{length, take}
 use Rattle.rows.specs.Numbers.{queues, maxLimit}
+use Rattle.rows.specs.Row.{isFree, isGoing}
+use Rattle.share.specs.declared.Answer.the-variants.{Granted}
 use Rattle.share.specs.declared.Event.{Event}
 use Rattle.share.specs.declared.Event.the-variants.{Fresh}
+use Rattle.share.specs.declared.Refusal.{Refusal}
 use Rattle.share.specs.declared.Table.{Table}
-use Rattle.share.specs.Table.{row}
-use Rattle.share.specs.Calls.{lagList}
+use Rattle.share.specs.Table.{row, AtMostV}
+use Rattle.share.specs.Sound.{Sound}
+use Rattle.share.specs.Release.{Frees, released}
+use Rattle.share.specs.Choice.{eligible, deadline, Chosen}
+use Rattle.share.specs.Answers.{refusalNumber, number}
+use Rattle.share.specs.Refusals.{firstOf, grantChecks}
+use Rattle.share.specs.Calls.{grantReply, lagReply, lagList}
+use Rattle.share.specs.Events as Events
 use Rattle.share.specs.Events.{emptyTable}
-use Rattle.share.specs.Runs.{step}
+use Rattle.share.specs.Runs.{step, run, checksOf, doneBy}
+use Rattle.share.proofs.Answering as Answering
+use Rattle.share.proofs.Calls.{Kept}
+use Rattle.share.proofs.Choice as Choice
+use Rattle.share.proofs.Entry as Entry
+use Rattle.share.proofs.Exactly as Exactly
+use Rattle.share.proofs.Granting as Granting
+use Rattle.share.proofs.Granting.{Rightly}
+use Rattle.share.proofs.Kept as Kept
+use Rattle.share.proofs.Refusals.{Applies}
+use Rattle.share.proofs.Release as Release
 use Rattle.fractions.specs.Signed.{summed}
 use Rattle.fractions.specs.Fraction.{nothing, _~_, total}
 use Rattle.account.specs.Account.{present, Queue, Account, entry, owedTo, weightLeft}
@@ -30,6 +50,65 @@ use Rattle.account.proofs.Theorems as Theorems
 use Rattle.account.proofs.Departures as Departures
 use Rattle.account.proofs.Twice as Twice
 use Rattle.account.proofs.Frames as Frames
+
+-- 1. "Every call accepts any table and any numbers, and ends." (No public call has a `requires`, and the checker proves that each returns: that is no
+-- statement about definitions.) "What is not allowed is refused by its number,"
+pub refused-by-its-number : (t : Table) (e : Event) (why : Refusal) → firstOf (checksOf t e) ≡ some why → Kept t (step t e) why
+refused-by-its-number = Answering.step-refused
+
+pub allowed-is-done : (t : Table) (e : Event) → firstOf (checksOf t e) ≡ none → step t e ≡ doneBy t e
+allowed-is-done = Answering.step-done
+
+-- "in the fixed order;"
+pub lowest-number-answers : (t : Table) (e : Event) (why other : Refusal) → firstOf (checksOf t e) ≡ some why → Applies other (checksOf t e) → refusalNumber why ≤ refusalNumber other
+lowest-number-answers = Answering.step-lowest
+
+-- "the table comes back as given"
+pub refused-hands-the-table-back : (t : Table) (e : Event) → number (step t e .answer) ≢ 0 → step t e .table ≡ t
+refused-hands-the-table-back = Answering.refused-table
+
+pub report-hands-the-table-back : (t : Table) (lent : List ℤ) → lagReply t lent .table ≡ t
+report-hands-the-table-back = Answering.report-table
+
+-- "and a lent list stays untouched."
+pub refused-leaves-the-list : (t : Table) (lent : List ℤ) → number (lagReply t lent .answer) ≢ 0 → lagList t lent ≡ lent
+refused-leaves-the-list = Answering.refused-list
+
+-- 2. "Every accepted event gives the queue, slice"
+pub grants-rightly : (t : Table) → firstOf (grantChecks t) ≡ none → (queue slice : ℕ) → grantReply t .answer ≡ Granted queue slice → Rightly t queue slice
+grants-rightly = Granting.grant-rightly
+
+pub only-one-is-chosen : (t : Table) (i j : ℕ) → Chosen t i → Chosen t j → i ≡ j
+only-one-is-chosen = Choice.chosen-only
+
+-- "and table that the EEVDF rules give,"
+pub tables-stay-sound : (t : Table) (e : Event) → Sound t → Sound (step t e .table)
+tables-stay-sound = Kept.step-keeps
+
+pub runs-are-sound : (limit : ℕ) → 1 ≤ limit → limit ≤ maxLimit → (calls : List Event) → Sound (run (emptyTable limit) calls)
+runs-are-sound = Kept.run-sound
+
+-- "with our rules for rounding,"
+pub enters-not-below-V : (t : Table) → 0 < t .total → t .sum ≤ Events.entry t * t .total
+enters-not-below-V = Entry.entry-not-below
+
+pub enters-at-the-least : (t : Table) → 0 < t .total → (c : ℕ) → t .sum ≤ c * t .total → Events.entry t ≤ c
+enters-at-the-least = Entry.entry-least
+
+-- "ties"
+pub ties-to-the-lower : (t : Table) (i j : ℕ) → Chosen t i → eligible t (row t j) ≡ true → deadline (row t j) ≡ deadline (row t i) → i ≤ j
+ties-to-the-lower = Choice.lowest-number
+
+-- "and departures."
+pub released-in-any-order : {t u v : Table} → Frees t u → Frees t v → u ≡ v
+released-in-any-order = Release.same-end
+
+pub released-when-reached : (t : Table) (j : ℕ) → isGoing (row t j .state) ≡ true → (isFree (row (released t) j .state) ≡ true) ↔ AtMostV (released t) (row t j .position)
+released-when-reached = Exactly.released-exactly
+
+-- "A grant on a sound table is refused for want of a queue exactly when the table is empty."
+pub eleven-exactly-when-empty : (t : Table) → Sound t → (number (grantReply t .answer) ≡ 11) ↔ (t .total ≡ 0)
+eleven-exactly-when-empty = Granting.grant-eleven
 
 -- 3. "Over any run of calls from a fresh table, each queue's reported lag equals its account worked out afresh from the run;"
 pub reported-lag-is-account : (limit : ℕ) → 1 ≤ limit → limit ≤ maxLimit → (calls : List Event) (lent : List ℤ) → queues ≤ length lent → (i : ℕ) → i < queues → reported (tableAfter limit calls) lent i ~ owedTo (entry (accountOf limit calls) i)
