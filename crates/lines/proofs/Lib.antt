@@ -7,3 +7,5 @@ pub mod RoundTrip
 pub mod Pieces
 pub mod Working
 pub mod Turning
+pub mod Broken
+pub mod Worked

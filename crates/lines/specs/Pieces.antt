@@ -58,9 +58,11 @@ heldIn s buf = bytesIn buf (s .from) (s .have)
 abbrev pub printsOn : State → List ℕ → List ℕ → List ℕ
 printsOn s buf rest = printsFrom (s .line) (s .table) (heldIn s buf ++ rest)
 
+-- "It begins with the table that refusal 14 gives"
 abbrev pub begun : State
 begun = record { table = emptyTable 1; line = 1; from = 0; have = 0; more = false; written = 0 }
 
+-- nothing was done
 abbrev pub idleAs : State → State
 idleAs s = record { table = s .table; line = s .line; from = s .from; have = s .have; more = true; written = 0 }
 
@@ -70,6 +72,8 @@ grownBy s n =
     cond (ltb (2 ^ 64 - 1 - s .have) n) (idleAs s)
     (record { table = s .table; line = s .line; from = s .from; have = s .have + n; more = true; written = 0 })
 
+-- what waits for more input is an unfinished line, at the front of the buffer, of 41 bytes
+-- at most
 pub record Waits (r : State) (buf : List ℕ) : Type 0 where
   pub unfinished : Unfinished (heldIn r buf)
   pub first : r .from ≡ 0
