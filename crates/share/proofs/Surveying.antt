@@ -70,6 +70,10 @@ slice-left limit (Asking q) = refl
 pub too-heavy : (t : Table) → 1024 < t .total → Sound t → ⊥
 too-heavy t h is = omega (arith, total-most t (is .orderly-table))
 
+-- a walk that met a fault walks no sound table
+pub fault-unsound : (t : Table) (i : ℕ) (seen : Seen) → SoFar t i seen → 0 < seen .faults → Sound t → ⊥
+fault-unsound t i seen walked fault is = walked .failed fault (sound-fine t is)
+
 module _ (t : Table) (seen : Seen) (one-each : length (t .rows) ≡ queues) (walked : SoFar t 64 seen) where
   -- nothing is left
   done : drop 64 (t .rows) ≡ []
@@ -85,7 +89,7 @@ module _ (t : Table) (seen : Seen) (one-each : length (t .rows) ≡ queues) (wal
   pub sound-whole : Sound t → Whole seen (t .total) (t .sum) (t .limit)
   sound-whole is =
       let o = is .orderly-table in
-      let clean : seen .faults ≡ 0 = ⊎-elim (λ f. absurd (walked .failed f (sound-fine t is))) (λ z. omega arith) (le-or-lt 1 (seen .faults)) in
+      let clean : seen .faults ≡ 0 = ⊎-elim (λ f. absurd (fault-unsound t 64 seen walked f is)) (λ z. omega arith) (le-or-lt 1 (seen .faults)) in
       let p = walked .passed clean in
       record {
         no-fault = clean;

@@ -343,6 +343,10 @@ impl Table {
             let row = self.rows[i];
             let seeing = look_at(row, &steps, total, sum);
             seen = seen_next(seen, i as u64, seeing);
+            let faults = seen.faults;
+            if 0 < faults {
+                return UNSOUND;
+            }
             i += 1;
         }
         if !whole(seen, total, sum, limit) {

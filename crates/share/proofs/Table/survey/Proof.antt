@@ -11,7 +11,7 @@ use Rattle.rows.specs.Numbers.{steps as allSteps}
 use Rattle.laws.proofs.Tests.{clash}
 use Rattle.share.specs.Survey.{Whole}
 use Rattle.share.specs.Table.{row}
-use Rattle.share.proofs.Surveying.{not-sound, too-heavy, sound-whole, each-orderly, survey-tells}
+use Rattle.share.proofs.Surveying.{not-sound, too-heavy, fault-unsound, sound-whole, each-orderly, survey-tells}
 use Rattle.share.proofs.Walk.{SoFar, walk-starts, walk-next, walk-room}
 use Rattle.share.proofs.Table.survey.Statement.{statement}
 use Rattle.share.proofs.Table.survey.Tie as tie
@@ -46,6 +46,18 @@ seen-next-requires c κs =
     let head = c .before .before .before .before in
     walk-room (head .before .before .args .t1) (head .loop .i) (head .loop .seen) (c .look-at .result) _ (c .before .before .before .loop-test .taken) (head .loop .inv .1) (c .look-at .ensures)
 
+-- one row more walked
+one-more : (c : tie.After-seen-next Inv-loop μ-loop) → let head = c .before .before .before .before .before in SoFar (head .before .before .args .t1) (suc (head .loop .i)) (c .seen-next .result)
+unfolding row
+one-more c =
+    let head = c .before .before .before .before .before in
+    let t = head .before .before .args .t1 in
+    let inside : head .loop .i < length (t .rows) = omega (arith, sixty-four (head .before .before), c .before .before .before .before .loop-test .taken) in
+    rw (c .seen-next .ensures) (walk-next t (head .loop .i) (head .loop .seen) (c .before .look-at .result) inside (head .loop .inv .1) (c .before .look-at .ensures))
+
+returns-2 : tie.Need-returns-2 Inv-loop μ-loop
+returns-2 c = not-sound _ _ refl (fault-unsound _ _ _ (one-more (c .before)) (c .if2 .taken))
+
 add-i : tie.Need-add-i Inv-loop μ-loop
 add-i c = omega arith
 
@@ -53,15 +65,7 @@ loop-less : tie.Need-loop-less Inv-loop μ-loop
 loop-less c = omega arith
 
 loop-again : tie.Need-loop-again Inv-loop μ-loop
-unfolding row
-loop-again c =
-    let head = c .before .before .before .before .before in
-    let t = head .before .before .args .t1 in
-    let l = c .before .look-at .result in
-    let inside : head .loop .i < length (t .rows) = omega (arith, sixty-four (head .before .before), c .before .before .before .before .loop-test .taken) in (
-      omega arith,
-      rw (c .seen-next .ensures, add-one) (walk-next t (head .loop .i) (head .loop .seen) l inside (head .loop .inv .1) (c .before .look-at .ensures)),
-    )
+loop-again c = (omega arith, rw add-one (one-more (c .before)))
 
 -- every row walked
 walked : (c : tie.After-loop Inv-loop μ-loop) → SoFar (c .before .before .before .args .t1) 64 (c .before .loop .seen)
@@ -73,12 +77,12 @@ walked c =
 whole-requires : tie.Need-whole-requires Inv-loop μ-loop
 whole-requires c κs = search needs
 
-returns-2 : tie.Need-returns-2 Inv-loop μ-loop
-returns-2 c =
+returns-3 : tie.Need-returns-3 Inv-loop μ-loop
+returns-3 c =
     let t = c .before .before .before .before .before .args .t1 in
     let after = c .before .before in
     not-sound t _ refl
-    (λ is. clash (c .before .whole .ensures .told (sound-whole t _ (sixty-four (after .before .before .before)) (walked after) is)) (not-true _ (c .if2 .taken)))
+    (λ is. clash (c .before .whole .ensures .told (sound-whole t _ (sixty-four (after .before .before .before)) (walked after) is)) (not-true _ (c .if3 .taken)))
 
 place-requires : tie.Need-place-requires Inv-loop μ-loop
 place-requires c κs = search needs
@@ -90,8 +94,8 @@ element-copy-out-held : tie.Need-element-copy-out-held Inv-loop μ-loop
 element-copy-out-held c = c .place .ensures .inside
 
 -- the table passed whole
-passed-whole : (c : tie.Else2 Inv-loop μ-loop) → let t = c .before .before .before .before .before .args .t1 in Whole (c .before .before .before .loop .seen) (t .total) (t .sum) (t .limit)
-passed-whole c = c .before .whole .ensures .says (not-false _ (c .if2 .left))
+passed-whole : (c : tie.Else3 Inv-loop μ-loop) → let t = c .before .before .before .before .before .args .t1 in Whole (c .before .before .before .loop .seen) (t .total) (t .sum) (t .limit)
+passed-whole c = c .before .whole .ensures .says (not-false _ (c .if3 .left))
 
 slice-orderly-requires : tie.Need-slice-orderly-requires Inv-loop μ-loop
 unfolding row
@@ -106,8 +110,8 @@ slice-orderly-requires c κs =
       its-row = λ h. ap (λ (i : ℕ). row t i) (sym (c .before .place .ensures .same h));
     }
 
-returns-3 : tie.Need-returns-3 Inv-loop μ-loop
-returns-3 c =
+returns-4 : tie.Need-returns-4 Inv-loop μ-loop
+returns-4 c =
     let after = c .before .before .before .before .before in
     let start = after .before .before .before in
     survey-tells (start .args .t1) (after .before .loop .seen) (sixty-four start) (walked after) (passed-whole (c .before .before .before)) (c .slice-orderly .result) (c .slice-orderly .ensures)
@@ -124,13 +128,14 @@ survey-spec =
     element-copy-out-row
     look-at-requires
     seen-next-requires
+    returns-2
     add-i
     loop-less
     loop-again
     whole-requires
-    returns-2
+    returns-3
     place-requires
     mul-held
     element-copy-out-held
     slice-orderly-requires
-    returns-3)
+    returns-4)
