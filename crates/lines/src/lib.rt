@@ -12,7 +12,9 @@ ghost use lib.ListN.{length, drop};
 ghost use Rattle.lines.specs.Cut.{newline, before};
 ghost use Rattle.lines.specs.Pieces.{Worked, Kept, begun, idleAs, grownBy, Turned, Closed};
 ghost use Rattle.lines.specs.Print.{header as headerBytes};
+use share::Answer;
 use share::Event;
+use share::Reply;
 use share::Table;
 use writing::plain;
 use writing::show;
@@ -208,11 +210,15 @@ pub struct Done {
 pub fn work(table: Table, line: u64, input: &[u8], out: &mut [u8]) -> Done
     ensures { λ r. ⌜ Worked line table (now (input .entry)) (now (out .exit)) r ⌝ }
 {
-    let mut table = table;
+    let mut reply = Reply {
+        answer: Answer::Accepted,
+        table,
+    };
     let mut line = line;
     let mut i = 0;
     let mut written = 0;
     while i < input.len() {
+        let table = reply.table;
         let e = line_end(input, i);
         if e == input.len() {
             return Done {
@@ -247,13 +253,14 @@ pub fn work(table: Table, line: u64, input: &[u8], out: &mut [u8]) -> Done
             i = e + 1;
             continue;
         };
-        let reply = table.apply(event);
+        reply = table.apply(event);
         let answer = reply.answer;
-        table = reply.table;
-        written = write_answer(out, written, line, show(answer), table.sum, table.total);
+        let after = reply.table;
+        written = write_answer(out, written, line, show(answer), after.sum, after.total);
         line += 1;
         i = e + 1;
     }
+    let table = reply.table;
     Done {
         read: i,
         written,

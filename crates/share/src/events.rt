@@ -71,11 +71,11 @@ impl Table {
         ensures { λ r. ⌜ r ≡ table.placed self queue row ⌝ }
     {
         let at = queue as usize;
-        let old = self.rows[at];
         let mut t = self;
+        let old = t.rows[at];
         t.rows[at] = row;
-        t.total = exchanged(self.total, old.weight, row.weight);
-        t.sum = exchanged(self.sum, moment(old), moment(row));
+        t.total = exchanged(t.total, old.weight, row.weight);
+        t.sum = exchanged(t.sum, moment(old), moment(row));
         t
     }
 
@@ -200,8 +200,8 @@ impl Table {
         ensures { λ r. ⌜ r ≡ events.returned self queue used early ⌝ }
     {
         let at = queue as usize;
-        let row = self.rows[at];
         let mut t = self;
+        let row = t.rows[at];
         t.out = false;
         t.holder = 0;
         t.ticks = 0;

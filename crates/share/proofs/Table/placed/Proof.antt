@@ -21,7 +21,7 @@ element-set-from-row c = search needs
 
 exchanged-requires : tie.Need-exchanged-requires
 unfolding row
-exchanged-requires c κs = let a = c .before .args in exchange-weights (a .t1) (a .queue) (a .row) (c .before .pre)
+exchanged-requires c κs = let a = c .before .args in exchange-weights (a .self) (a .queue) (a .row) (c .before .pre)
 
 moment-requires : tie.Need-moment-requires
 unfolding row
@@ -34,13 +34,13 @@ exchanged-requires-2 : tie.Need-exchanged-requires-2
 unfolding row
 exchanged-requires-2 c κs =
     let start = c .before .before .before .before in
-    rw (c .before .moment .ensures, c .moment2 .ensures) (exchange-moments (start .args .t1) (start .args .queue) (start .args .row) (start .pre))
+    rw (c .before .moment .ensures, c .moment2 .ensures) (exchange-moments (start .args .self) (start .args .queue) (start .args .row) (start .pre))
 
 returns : tie.Need-returns
 unfolding row placed
 returns c =
     let start = c .before .before .before .before .before in
-    let t = start .args .t1 in
+    let t = start .args .self in
     rw (
       c .exchanged2 .ensures,
       c .before .before .moment .ensures,

@@ -20,14 +20,14 @@ element-copy-out-row c = search needs
 
 charged-requires : tie.Need-charged-requires
 unfolding row
-charged-requires c κs = let a = c .before .args in return-charges (a .t1) (a .queue) (a .used) (c .before .pre .0)
+charged-requires c κs = let a = c .before .args in return-charges (a .self) (a .queue) (a .used) (c .before .pre .0)
 
 placed-requires : tie.Need-placed-requires
 unfolding row withSlice
 placed-requires c κs =
     let start = c .before .before in
     let a = start .args in
-    rw (c .charged .ensures) (return-places (a .t1) (a .queue) (a .used) (start .pre .0) (a .early))
+    rw (c .charged .ensures) (return-places (a .self) (a .queue) (a .used) (start .pre .0) (a .early))
 
 settled-requires : tie.Need-settled-requires
 unfolding row withSlice
@@ -35,9 +35,9 @@ settled-requires c κs =
     let start = c .before .before .before in
     let a = start .args in
     rw (c .placed .ensures, c .before .charged .ensures)
-    (placed-settling (withSlice (a .t1) false 0 0) (a .queue) (charged (row (a .t1) (a .queue)) (a .used) (a .early)) (a .going)
-    (return-places (a .t1) (a .queue) (a .used) (start .pre .0) (a .early)) refl (slice-ahead (a .t1) false 0 0 (a .going) (start .pre .1))
-    (λ g. absurd (clash g (return-asks (a .t1) (a .queue) (a .used) (start .pre .0) (a .early)))))
+    (placed-settling (withSlice (a .self) false 0 0) (a .queue) (charged (row (a .self) (a .queue)) (a .used) (a .early)) (a .going)
+    (return-places (a .self) (a .queue) (a .used) (start .pre .0) (a .early)) refl (slice-ahead (a .self) false 0 0 (a .going) (start .pre .1))
+    (λ g. absurd (clash g (return-asks (a .self) (a .queue) (a .used) (start .pre .0) (a .early)))))
 
 returns : tie.Need-returns
 unfolding returned row withSlice
