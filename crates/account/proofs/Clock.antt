@@ -15,8 +15,9 @@ use Rattle.share.specs.Refusals.{freshChecks, joinChecks, leaveChecks, reweight
 use Rattle.share.specs.declared.Answer.the-variants.{Granted}
 use Rattle.share.specs.Calls.{refused, renewReply, joinReply, leaveReply, reweightReply, lengthReply, grantReply, returnReply}
 use Rattle.share.specs.Runs.{step}
-use Rattle.share.proofs.Accepted.{call-cases, Joins, join-accepted, Leaves, leave-accepted, reweight-accepted, Lengthens, length-accepted, Returns, return-accepted}
+use Rattle.share.proofs.Accepted.{Joins, join-accepted, Leaves, leave-accepted, reweight-accepted, Lengthens, length-accepted, Returns, return-accepted}
 use Rattle.share.proofs.Kept.{rejoins}
+use Rattle.calls.proofs.Calls.{call-cases}
 use Rattle.fractions.specs.Fraction.{nothing, _~_}
 use Rattle.fractions.proofs.Values.{Value, value-nothing, same-value, value-at-most}
 use Rattle.fractions.proofs.Laws.{same}

@@ -27,16 +27,16 @@ use Rattle.share.specs.Calls.{grantReply, lagReply, lagList}
 use Rattle.share.specs.Events as Events
 use Rattle.share.specs.Events.{emptyTable}
 use Rattle.share.specs.Runs.{step, run, checksOf, doneBy}
-use Rattle.share.proofs.Answering as Answering
-use Rattle.share.proofs.Calls.{Kept}
-use Rattle.share.proofs.Choice as Choice
 use Rattle.share.proofs.Entry as Entry
-use Rattle.share.proofs.Exactly as Exactly
-use Rattle.share.proofs.Granting as Granting
-use Rattle.share.proofs.Granting.{Rightly}
-use Rattle.share.proofs.Kept as Kept
-use Rattle.share.proofs.Refusals.{Applies}
 use Rattle.share.proofs.Release as Release
+use Rattle.calls.proofs.Answering as Answering
+use Rattle.calls.proofs.Calls.{Kept}
+use Rattle.calls.proofs.Choice as Choice
+use Rattle.calls.proofs.Exactly as Exactly
+use Rattle.calls.proofs.Granting as Granting
+use Rattle.calls.proofs.Granting.{Rightly}
+use Rattle.calls.proofs.Kept as Kept
+use Rattle.calls.proofs.Refusals.{Applies}
 use Rattle.fractions.specs.Signed.{summed}
 use Rattle.fractions.specs.Fraction.{nothing, _~_, total}
 use Rattle.account.specs.Account.{present, Queue, Account, entry, owedTo, weightLeft}

@@ -17,9 +17,9 @@ use Rattle.share.specs.Release.{freed, Frees, done, one, released}
 use Rattle.share.specs.Events.{joined, left, reweighted, lengthSet, granted, returned}
 use Rattle.share.specs.Calls.{renewReply, joinReply, leaveReply, reweightReply, lengthReply, grantReply, returnReply}
 use Rattle.share.specs.Runs.{step}
-use Rattle.share.proofs.Accepted.{call-cases}
 use Rattle.share.proofs.Placed.{placed-other}
 use Rattle.share.proofs.Release.{released-frees, freed-same, freed-other}
+use Rattle.calls.proofs.Calls.{call-cases}
 use Rattle.account.specs.Named.{names, Stays, same, let-go}
 
 then-stays : {a b c : Row} → Stays a b → Stays b c → Stays a c

@@ -19,7 +19,7 @@ use Rattle.share.specs.Release.{freed}
 use Rattle.share.specs.Events.{emptyTable, leaving, nextSet}
 use Rattle.share.proofs.Placed.{TrueSums}
 use Rattle.share.proofs.Virtual.{reached-yes, yes-reached}
-use Rattle.share.proofs.Departure.{weight-here}
+use Rattle.calls.proofs.Departure.{weight-here}
 use Rattle.account.specs.Account as Acc
 use Rattle.account.specs.Account.{Entry, absent, present, Account, entry, settled, goingAway, noOne}
 use Rattle.account.proofs.Match.{Alike, placed-total, placed-sum, set-both, match-set, blank-alike}

@@ -25,8 +25,9 @@ use Rattle.share.specs.Table.{row}
 use Rattle.share.specs.Events.{emptyTable, joined, left, reweighted, granted, returned}
 use Rattle.share.specs.Calls.{refused, renewReply, joinReply, leaveReply, reweightReply, lengthReply, grantReply, returnReply}
 use Rattle.share.specs.Runs.{step}
-use Rattle.share.proofs.Accepted.{call-cases, Joins, join-accepted, leave-accepted, Reweights, reweight-accepted, length-accepted, Returns, return-accepted}
+use Rattle.share.proofs.Accepted.{Joins, join-accepted, leave-accepted, Reweights, reweight-accepted, length-accepted, Returns, return-accepted}
 use Rattle.share.proofs.Kept.{holding}
+use Rattle.calls.proofs.Calls.{call-cases}
 use Rattle.fractions.specs.Fraction.{Fraction, whole, nothing, minus}
 use Rattle.account.specs.Changes.{joins, leaves}
 use Rattle.account.specs.Account as Acc

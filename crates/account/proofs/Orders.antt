@@ -22,7 +22,8 @@ use Rattle.share.specs.Table.{row}
 use Rattle.share.specs.Events.{emptyTable, joined, left, reweighted, lengthSet, returned}
 use Rattle.share.specs.Calls.{refused, renewReply, joinReply, leaveReply, reweightReply, lengthReply, grantReply, returnReply}
 use Rattle.share.specs.Runs.{step}
-use Rattle.share.proofs.Accepted.{call-cases, Reweights, reweight-accepted}
+use Rattle.share.proofs.Accepted.{Reweights, reweight-accepted}
+use Rattle.calls.proofs.Calls.{call-cases}
 use Rattle.fractions.specs.Fraction.{Fraction, whole, nothing, minus, _~_}
 use Rattle.fractions.proofs.Values.{same-value}
 use Rattle.fractions.proofs.Laws.{turned, through, at-most-same}

@@ -22,9 +22,10 @@ use Rattle.share.specs.Events.{emptyTable, entry, entering, joined, leaving, le
 use Rattle.share.specs.Answers.{refusalNumber}
 use Rattle.share.specs.Calls.{refused, renewReply, joinReply, leaveReply, reweightReply, lengthReply, grantReply, returnReply}
 use Rattle.share.specs.Runs.{step, run}
-use Rattle.share.proofs.Accepted.{call-cases, Joins, join-accepted, Leaves, leave-accepted, reweight-accepted, Lengthens, length-accepted, Returns, return-accepted}
+use Rattle.share.proofs.Accepted.{Joins, join-accepted, Leaves, leave-accepted, reweight-accepted, Lengthens, length-accepted, Returns, return-accepted}
 use Rattle.share.proofs.Kept.{rejoins, holding, slice-within}
 use Rattle.share.proofs.Rows.{meant-low}
+use Rattle.calls.proofs.Calls.{call-cases}
 use Rattle.account.specs.Changes.{Change, changesOf, endsInRelease}
 use Rattle.account.specs.Account as Acc
 use Rattle.account.specs.Account.{Account, made, noOne}

@@ -18,7 +18,7 @@ use Rattle.share.specs.Lag.{lagOf}
 use Rattle.share.specs.Sound.{Sound}
 use Rattle.share.specs.Calls.{lagList}
 use Rattle.share.specs.Events.{emptyTable}
-use Rattle.share.proofs.Kept.{run-sound}
+use Rattle.calls.proofs.Kept.{run-sound}
 use Rattle.fractions.specs.Signed.{summed}
 use Rattle.fractions.specs.Fraction.{nothing, _~_, total}
 use Rattle.account.specs.Account as Acc

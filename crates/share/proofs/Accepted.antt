@@ -1,42 +1,28 @@
 -- What an accepted call may rest on: no refusal applied, so each test of its list was false, and that is a fact about the table and the numbers.
-use mathlib.Core.Path.{_≡_, refl, ap, sym, subst, _∙_}
-use mathlib.Core.Bool.{Bool, true, false, not, cond, _&&_, _||_}
+use mathlib.Core.Path.{_≡_, refl}
+use mathlib.Core.Bool.{Bool, true, false, _||_}
 use mathlib.Core.List.{List, [], _∷_}
-use mathlib.Core.Option.{Option, none, some}
+use mathlib.Core.Option.{none}
 use Prim.Native.Nat.{ℕ, _≤_, _<_}
 use native.Mathlib.Omega.{arith}
-use lib.Dec.{leb, ltb, eqb}
+use lib.Dec.{ltb, eqb}
 use lib.IntN.{ℤ}
 use lib.ListN.{length}
-use borrow.Author.Tests.{leb-true, leb-false, ltb-false, eqb-true, eqb-false, not-false}
+use borrow.Author.Tests.{leb-false, ltb-false, eqb-true, eqb-false, not-false}
 use Rattle.laws.proofs.Tests.{clash, and-left, and-right}
-use Rattle.rows.specs.Numbers.{queues, maxWeight, maxLength, maxLimit, ceiling}
-use Rattle.rows.specs.Row.{isFree, isAsking}
-use Rattle.share.specs.declared.Refusal.{Refusal}
-use Rattle.share.specs.declared.Reply.{Reply}
+use Rattle.rows.specs.Numbers.{queues, maxWeight, maxLength, ceiling}
 use Rattle.share.specs.declared.Table.{Table}
-use Rattle.share.specs.Table.{row, AtMostV, reached, isEmpty}
-use Rattle.share.specs.Sound.{Sound, sound}
+use Rattle.share.specs.Table.{row, isEmpty}
+use Rattle.share.specs.Sound.{Sound}
 use Rattle.share.specs.Choice.{deadline}
 use Rattle.share.specs.Events.{chosen}
-use Rattle.share.specs.Refusals.{Check, _when_, firstOf, unsound, queueOutside, outside, lengthOutside, notHolder, rowTaken, notAsking, lagBelow, ceilingPassed, freshChecks, joinChecks, leaveChecks, releaseChecks, reweightChecks, lengthChecks, grantChecks, returnChecks, lagChecks}
-use Rattle.share.specs.Calls.{call, refused}
+use Rattle.share.specs.Refusals.{Check, _when_, firstOf, unsound, queueOutside, outside, lengthOutside, notHolder, rowTaken, notAsking, lagBelow, ceilingPassed, joinChecks, leaveChecks, releaseChecks, reweightChecks, lengthChecks, grantChecks, returnChecks, lagChecks}
 pub use Rattle.share.specs.Asks.{Joins, Leaves, Reweights, Lengthens, Grants, Returns}
-use Rattle.share.proofs.Calls.{call-refused, call-accepted}
 use Rattle.share.proofs.Refusals.{head-none}
 use Rattle.share.specs.Release.{done, released}
 use Rattle.share.proofs.Release.{frees-released}
 use Rattle.share.proofs.Sound.{sound-says}
 use Rattle.share.proofs.Virtual.{reached-yes}
-
--- a call is refused or done
-pub call-cases : (P : Reply → Type 0) (checks : List Check) (t : Table) (event : Reply) → ((why : Refusal) → firstOf checks ≡ some why → P (refused t why)) → (firstOf checks ≡ none → P event) → P (call checks t event)
-unfolding call
-call-cases P checks t event if-refused if-done = by (firstOf checks) refl
-  where
-    by : (o : Option Refusal) → firstOf checks ≡ o → P (call checks t event)
-    by none e = rw (call-accepted checks t event e) (if-done e)
-    by (some why) e = rw (call-refused checks t event why e) (if-refused why e)
 
 -- none of the tests passed
 abbrev pub AllFail : List Check → Type 0

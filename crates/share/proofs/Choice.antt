@@ -1,16 +1,15 @@
--- The choice is the rule's: a walk that keeps the best row so far ends with a row that meets the rule, and only one row does. All it asks of
--- the order is that it is strict and that of three rows the middle one goes before the last or after the first.
-use mathlib.Core.Path.{_≡_, refl, ap, sym, subst⁻¹, _∙_}
+-- The choice is the rule's: a walk that keeps the best row so far ends with a row that meets the rule. All it asks of the order is that it is
+-- strict and that of three rows the middle one goes before the last or after the first.
+use mathlib.Core.Path.{_≡_, refl, ap, subst⁻¹}
 use mathlib.Core.Bool.{Bool, true, false, cond, _&&_}
 use mathlib.Core.List.{List, [], _∷_}
 use mathlib.Core.Logic.{_⊎_, ⊎-elim}
 use mathlib.Core.Option.{Option, none, some}
 use Prim.Native.Nat.{ℕ, zero, suc, _+_, _≤_, _<_}
-use native.Mathlib.Nat.{add-zero, zero-add, add-suc, suc-add, le-antisymm}
+use native.Mathlib.Nat.{add-zero, zero-add, add-suc, suc-add}
 use native.Mathlib.Omega.{arith}
-use lib.Dec.{ltb}
-use lib.ListN.{length, getD, List·getD-eq-default}
-use borrow.Author.Tests.{ltb-true, ltb-false, lt-ltb, le-ltb}
+use lib.ListN.{length, getD}
+use borrow.Author.Tests.{ltb-true, ltb-false, lt-ltb}
 use Rattle.laws.proofs.Tests.{clash, refuted, le-or-lt, and-left, and-right}
 use Rattle.rows.specs.declared.Row.{Row}
 use Rattle.rows.specs.Row.{blank}
@@ -19,7 +18,11 @@ use Rattle.share.specs.Table.{row}
 use Rattle.share.specs.Choice.{eligible, deadline, precedes, Chosen, better, chooseFrom, choice}
 use Rattle.share.proofs.Sound.{row-past}
 
--- the order's two laws
+-- the order's three laws
+precedes-irrefl : (a : Row) → precedes a a ≡ true → ⊥
+unfolding precedes
+precedes-irrefl a p = omega (arith, ltb-true (deadline a) (deadline a) p)
+
 precedes-trans : (a b c : Row) → precedes a b ≡ true → precedes b c ≡ true → precedes a c ≡ true
 unfolding precedes
 precedes-trans a b c p q = lt-ltb (deadline a) (deadline c) (omega (arith, ltb-true (deadline a) (deadline b) p, ltb-true (deadline b) (deadline c) q))
@@ -27,10 +30,6 @@ precedes-trans a b c p q = lt-ltb (deadline a) (deadline c) (omega (arith, ltb-t
 precedes-between : (a b c : Row) → precedes a c ≡ true → precedes a b ≡ false → precedes b c ≡ true
 unfolding precedes
 precedes-between a b c p q = lt-ltb (deadline b) (deadline c) (omega (arith, ltb-true (deadline a) (deadline c) p, ltb-false (deadline a) (deadline b) q))
-
-precedes-irrefl : (a : Row) → precedes a a ≡ true → ⊥
-unfolding precedes
-precedes-irrefl a p = omega (arith, ltb-true (deadline a) (deadline a) p)
 
 and-true : (a : Bool) → a && true ≡ false → a ≡ false
 and-true true e = e
@@ -126,11 +125,6 @@ leads-chosen t b h =
       lowest = λ j e p. h .lowest j (eligible-inside t j e) e p;
     }
 
--- only one row meets the rule: of two, neither goes before the other, so each number is at most the other
-pub chosen-only : (t : Table) (i j : ℕ) → Chosen t i → Chosen t j → i ≡ j
-chosen-only t i j a b =
-    le-antisymm (a .lowest j (b .asks) (b .least i (a .asks))) (b .lowest i (a .asks) (a .least j (b .asks)))
-
 by-choice : (t : Table) (o : Option ℕ) → SoFar t (length (t .rows)) o → (i : ℕ) → o ≡ some i → Chosen t i
 by-choice t none h i e = let z : _≡_ {A = ℕ} 0 1 = cc in absurd (omega arith)
 by-choice t (some b) h i e = let same : b ≡ i = cc in rw (← same) (leads-chosen t b h)
@@ -146,20 +140,3 @@ by-none t (some b) h e i asks = let z : _≡_ {A = ℕ} 0 1 = cc in omega arith
 -- it finds one where a row is eligible at all
 pub choice-none : (t : Table) → choice t ≡ none → (i : ℕ) → eligible t (row t i) ≡ true → ⊥
 choice-none t e i asks = by-none t (choice t) (choice-leads t) e i asks
-
--- and what meets the rule is what the function finds
-pub chosen-choice : (t : Table) (i : ℕ) → Chosen t i → choice t ≡ some i
-chosen-choice t i h = by (choice t) refl
-  where
-    by : (o : Option ℕ) → choice t ≡ o → choice t ≡ some i
-    by none e = absurd (choice-none t e i (h .asks))
-    by (some b) e = e ∙ ap some (chosen-only t b i (choice-chosen t b e) h)
-
--- the rule in document 01's words
-pub least-deadline : (t : Table) (i j : ℕ) → Chosen t i → eligible t (row t j) ≡ true → deadline (row t i) ≤ deadline (row t j)
-unfolding precedes
-least-deadline t i j h e = ltb-false (deadline (row t j)) (deadline (row t i)) (h .least j e)
-
-pub lowest-number : (t : Table) (i j : ℕ) → Chosen t i → eligible t (row t j) ≡ true → deadline (row t j) ≡ deadline (row t i) → i ≤ j
-unfolding precedes
-lowest-number t i j h e same = h .lowest j e (le-ltb (deadline (row t i)) (deadline (row t j)) (omega arith))

@@ -1,14 +1,11 @@
--- Putting one row in another's place: the other rows stay, W and A stay true sums, and placing a free row is what a departure does to V.
-use mathlib.Core.Path.{_≡_, refl, ap, sym, _∙_}
+-- Putting one row in another's place: the other rows stay, and W and A stay true sums.
+use mathlib.Core.Path.{_≡_}
 use mathlib.Core.Logic.{_≢_}
-use mathlib.Core.List.{List}
-use Prim.Native.Nat.{ℕ, _+_, _-_, _*_, _≤_, _<_}
+use Prim.Native.Nat.{ℕ, _<_}
 use native.Mathlib.Omega.{arith}
-use native.Mathlib.Nat.{mul-le-mul-left}
-use lib.ListN.{length, getD, set, length-set}
+use lib.ListN.{length, length-set}
 use lib.Seq.{getD-set-same, getD-set-other}
-use Rattle.laws.specs.Lists.{sumOf}
-use Rattle.laws.proofs.Sums.{sum-set, sum-at}
+use Rattle.laws.proofs.Sums.{sum-set}
 use Rattle.rows.specs.declared.Row.{Row}
 use Rattle.rows.specs.Row.{blank, weightIn, momentIn}
 use Rattle.share.specs.declared.Table.{Table}
@@ -39,12 +36,3 @@ module _ (t : Table) (i : ℕ) (r : Row) where
         total-true = omega (arith, s .total-true, sum-set weightIn (t .rows) i r blank h);
         sum-true = omega (arith, s .sum-true, sum-set momentIn (t .rows) i r blank h);
       }
-
-  -- a row with the same share leaves W and A as they were
-  pub placed-total : weightIn r ≡ weightIn (row t i) → placed t i r .total ≡ t .total
-  unfolding placed
-  placed-total e = omega arith
-
-  pub placed-sum : momentIn r ≡ momentIn (row t i) → placed t i r .sum ≡ t .sum
-  unfolding placed
-  placed-sum e = omega arith

@@ -1,22 +1,21 @@
 -- Equations 7 to 12, 14 and 15 of report 96-038, over the common denominators of positions (720,720 / weight a tick) and of V = A / W.
 use mathlib.Core.Path.{_≡_, refl, ap, sym, _∙_}
 use mathlib.Core.Bool.{Bool, true, false}
-use Prim.Native.Nat.{ℕ, _+_, _*_, _≤_, _<_}
+use Prim.Native.Nat.{ℕ, _+_, _*_, _<_}
 use native.Mathlib.Omega.{arith}
 use lib.ListN.{length}
 use Rattle.rows.specs.declared.Request.{Request}
 use Rattle.rows.specs.declared.Row.{Row}
-use Rattle.rows.specs.declared.State.the-variants.{Asking}
-use Rattle.rows.specs.Numbers.{stepOf, lengthMeant}
+use Rattle.rows.specs.Numbers.{stepOf}
 use Rattle.rows.specs.Row.{isFree, positionOf, deadlineOf, chargedTo}
 use Rattle.share.specs.declared.Table.{Table}
-use Rattle.share.specs.Events.{entry, opened, entering, servedTo}
+use Rattle.share.specs.Events.{opened, servedTo}
 use Rattle.share.specs.Release.{freed}
 use Rattle.share.specs.Sound.{OrderlyRequest}
 use Rattle.share.specs.Table.{row}
-use Rattle.share.proofs.Departure.{departure-once}
 use Rattle.share.proofs.Parts.{served-early, served-up}
 use Rattle.share.proofs.Placed.{TrueSums}
+use Rattle.calls.proofs.Departure.{departure-once}
 
 -- Equation 9: the first request opens where the queue enters. Equation 10: its deadline is a length's steps later.
 pub first-opens : (w p length : ℕ) → opened p length .opening ≡ p

@@ -2,42 +2,39 @@
 -- table is empty, and what it names meets the rule.
 use mathlib.Core.Path.{_≡_, refl, ap, sym, subst, _∙_}
 use mathlib.Core.Bool.{Bool, true, false, cond, not}
-use mathlib.Core.Logic.{_↔_, _⊎_, ⊎-elim}
-use mathlib.Core.Option.{Option, none, some}
+use mathlib.Core.Logic.{_↔_, ⊎-elim}
+use mathlib.Core.Option.{none, some}
 use Prim.Native.Nat.{ℕ, _-_, _≤_, _<_, min}
 use native.Mathlib.Omega.{arith}
 use lib.ListN.{length}
 use borrow.Author.Tests.{eq-eqb, ne-eqb}
-use Rattle.laws.proofs.Tests.{clash, either, le-or-lt}
+use Rattle.laws.proofs.Tests.{clash, le-or-lt}
 use Rattle.rows.specs.declared.Request.{Request}
 use Rattle.rows.specs.declared.Row.{Row}
 use Rattle.rows.specs.declared.State.{State}
 use Rattle.rows.specs.declared.State.the-variants.{Free, Going, Asking}
 use Rattle.rows.specs.Numbers.{ceiling}
-use Rattle.rows.specs.Row.{isAsking}
-use Rattle.share.specs.declared.Answer.{Answer}
-use Rattle.share.specs.declared.Answer.the-variants.{Granted, Refused}
-use Rattle.share.specs.declared.Refusal.{Refusal}
-use Rattle.share.specs.declared.Refusal.the-variants.{Unsound, SliceOut, TableEmpty, CeilingPassed}
+use Rattle.share.specs.declared.Answer.the-variants.{Granted}
+use Rattle.share.specs.declared.Refusal.the-variants.{SliceOut, TableEmpty, CeilingPassed}
 use Rattle.share.specs.declared.Reply.{Reply}
 use Rattle.share.specs.declared.Table.{Table}
 use Rattle.share.specs.Answers.{number}
 use Rattle.share.specs.Calls.{unless, call, refused, grantReply}
-use Rattle.share.specs.Choice.{Chosen, eligibleAs, eligible, deadline}
-use Rattle.share.specs.Events.{chosen, sliceAs, sliceGiven, granted}
+use Rattle.share.specs.Choice.{eligibleAs, eligible, deadline}
+use Rattle.share.specs.Events.{chosen, sliceAs, sliceGiven}
 use Rattle.share.specs.Refusals.{firstOf, unsound, ceilingPassed, grantChecks}
-use Rattle.share.specs.Sound.{OrderlyAs, HeldBy, OrderlySlice, Sound, sound, sliceFor}
+use Rattle.share.specs.Sound.{OrderlyAs, HeldBy, OrderlySlice, Orderly, Sound, sliceFor}
 use Rattle.share.specs.Table.{row, isEmpty, AtMostV}
 use Rattle.share.specs.Asks.{Grants}
 use Rattle.share.proofs.Accepted.{grant-accepted}
 use Rattle.share.proofs.Calls.{call-refused, call-accepted}
-use Rattle.share.proofs.Choice.{least-deadline, lowest-number}
 use Rattle.share.proofs.Departure.{weight-within}
 use Rattle.share.proofs.Keeps.{sums-true}
-use Rattle.share.proofs.Kept.{chosen-meets}
 use Rattle.share.proofs.Shares.{orderly-weight}
 use Rattle.share.proofs.Sound.{says-sound, row-past}
 use Rattle.share.proofs.Virtual.{reached-yes}
+use Rattle.calls.proofs.Choice.{least-deadline, lowest-number}
+use Rattle.calls.proofs.Kept.{chosen-meets}
 
 -- a row that holds a slice is asking, and weighs at least 1
 held-weighs : (t : Table) (s : State) (w p : ℕ) → HeldBy t s w → OrderlyAs s w p → 1 ≤ w
@@ -51,7 +48,7 @@ held-present t r e h = subst (λ (x : Row). HeldBy t (x .state) (x .weight)) e h
 pub empty-still : (t : Table) → Sound t → t .total ≡ 0 → t .out ≡ false
 empty-still t is empty = by (t .out) refl
   where
-    o : Rattle.share.specs.Sound.Orderly t
+    o : Orderly t
     o = is .orderly-table
 
     by : (b : Bool) → t .out ≡ b → t .out ≡ false

@@ -1,23 +1,23 @@
 -- Demand 1 on events: a step is refused by the lowest number that applies, with the table as it was given, or is done.
-use mathlib.Core.Path.{_≡_, refl, ap, sym, _∙_}
+use mathlib.Core.Path.{_≡_, refl, ap, _∙_}
 use mathlib.Core.Bool.{true}
 use mathlib.Core.List.{List}
-use mathlib.Core.Logic.{_≢_, _↔_}
+use mathlib.Core.Logic.{_≢_}
 use mathlib.Core.Option.{Option, none, some}
-use Prim.Native.Nat.{ℕ, _≤_}
-use native.Mathlib.Omega.{arith}
+use Prim.Native.Nat.{_≤_}
 use lib.IntN.{ℤ}
 use Rattle.share.specs.declared.Event.{Event}
 use Rattle.share.specs.declared.Event.the-variants.{Fresh, Join, Leave, Reweight, Length, Grant, Return}
 use Rattle.share.specs.declared.Refusal.{Refusal}
 use Rattle.share.specs.declared.Reply.{Reply}
 use Rattle.share.specs.declared.Table.{Table}
 use Rattle.share.specs.Answers.{refusalNumber, number}
-use Rattle.share.specs.Calls.{call, refused, renewReply, joinReply, leaveReply, reweightReply, lengthReply, grantReply, returnReply, reportedReply, lagReply, lagList}
-use Rattle.share.specs.Refusals.{Check, firstOf, lagChecks}
+use Rattle.share.specs.Calls.{call, renewReply, joinReply, leaveReply, reweightReply, lengthReply, grantReply, returnReply, reportedReply, lagReply, lagList}
+use Rattle.share.specs.Refusals.{firstOf, lagChecks}
 use Rattle.share.specs.Runs.{step, checksOf, doneBy}
-use Rattle.share.proofs.Calls.{call-refused, call-accepted, Kept, refused-kept}
-use Rattle.share.proofs.Refusals.{Applies, ordered, first-lowest, fresh-ordered, join-ordered, leave-ordered, reweight-ordered, length-ordered, grant-ordered, return-ordered}
+use Rattle.share.proofs.Calls.{call-refused, call-accepted}
+use Rattle.calls.proofs.Calls.{Kept, refused-kept}
+use Rattle.calls.proofs.Refusals.{Applies, ordered, first-lowest, fresh-ordered, join-ordered, leave-ordered, reweight-ordered, length-ordered, grant-ordered, return-ordered}
 
 pub step-parts : (t : Table) (e : Event) → step t e ≡ call (checksOf t e) t (doneBy t e)
 unfolding step renewReply joinReply leaveReply reweightReply lengthReply grantReply returnReply

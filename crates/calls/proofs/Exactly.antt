@@ -1,20 +1,20 @@
 -- Release frees exactly the going rows that V comes to reach. V only rises while rows are freed, so a row freed on the way is reached at the end;
 -- and a going row that stays is not, since the release ends calm.
 use mathlib.Core.Path.{_≡_, refl, ap, subst, subst⁻¹}
-use mathlib.Core.Bool.{Bool, true, false}
+use mathlib.Core.Bool.{true}
 use mathlib.Core.Logic.{_⊎_, ⊎-elim, _↔_}
-use Prim.Native.Nat.{ℕ, _*_, _≤_}
+use Prim.Native.Nat.{ℕ}
 use native.Mathlib.Decide.{ℕ-discrete}
 use Rattle.laws.proofs.Means.{still-reached}
 use Rattle.laws.proofs.Tests.{clash}
 use Rattle.rows.specs.declared.Row.{Row}
 use Rattle.rows.specs.Row.{blank, isFree, isGoing}
 use Rattle.share.specs.declared.Table.{Table}
 use Rattle.share.specs.Release.{freed, Frees, done, one, released}
 use Rattle.share.specs.Sound.{Ready}
 use Rattle.share.specs.Table.{row, AtMostV}
 use Rattle.share.proofs.Keeps.{frees-calm}
 use Rattle.share.proofs.Release.{freed-total, freed-sum, freed-same, freed-other, ready-weight, ready-moment, released-frees}
 
 -- V does not fall below a position it has reached
 still-level : (t : Table) (i p : ℕ) → Ready t i → AtMostV t p → AtMostV (freed t i) p
