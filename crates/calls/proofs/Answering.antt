@@ -12,22 +12,13 @@ use Rattle.share.specs.declared.Refusal.{Refusal}
 use Rattle.share.specs.declared.Reply.{Reply}
 use Rattle.share.specs.declared.Table.{Table}
 use Rattle.share.specs.Answers.{refusalNumber, number}
-use Rattle.share.specs.Calls.{call, renewReply, joinReply, leaveReply, reweightReply, lengthReply, grantReply, returnReply, reportedReply, lagReply, lagList}
+use Rattle.share.specs.Calls.{call, reportedReply, lagReply, lagList}
 use Rattle.share.specs.Refusals.{firstOf, lagChecks}
 use Rattle.share.specs.Runs.{step, checksOf, doneBy}
 use Rattle.share.proofs.Calls.{call-refused, call-accepted}
+use Rattle.share.proofs.Verdicts.{step-parts}
 use Rattle.calls.proofs.Calls.{Kept, refused-kept}
 use Rattle.calls.proofs.Refusals.{Applies, ordered, first-lowest, fresh-ordered, join-ordered, leave-ordered, reweight-ordered, length-ordered, grant-ordered, return-ordered}
-
-pub step-parts : (t : Table) (e : Event) → step t e ≡ call (checksOf t e) t (doneBy t e)
-unfolding step renewReply joinReply leaveReply reweightReply lengthReply grantReply returnReply
-step-parts t (Fresh limit) = refl
-step-parts t (Join queue weight length) = refl
-step-parts t (Leave queue) = refl
-step-parts t (Reweight queue weight length) = refl
-step-parts t (Length queue length) = refl
-step-parts t Grant = refl
-step-parts t (Return queue used early) = refl
 
 pub checks-ordered : (t : Table) (e : Event) → ordered 0 (checksOf t e) ≡ true
 checks-ordered t (Fresh limit) = fresh-ordered limit

@@ -12,9 +12,7 @@ ghost use lib.ListN.{length, drop};
 ghost use Rattle.lines.specs.Cut.{newline, before};
 ghost use Rattle.lines.specs.Pieces.{Worked, Kept, begun, idleAs, grownBy, Turned, Closed};
 ghost use Rattle.lines.specs.Print.{header as headerBytes};
-use share::Answer;
 use share::Event;
-use share::Reply;
 use share::Table;
 use writing::plain;
 use writing::show;
@@ -210,15 +208,11 @@ pub struct Done {
 pub fn work(table: Table, line: u64, input: &[u8], out: &mut [u8]) -> Done
     ensures { λ r. ⌜ Worked line table (now (input .entry)) (now (out .exit)) r ⌝ }
 {
-    let mut reply = Reply {
-        answer: Answer::Accepted,
-        table,
-    };
+    let mut t = table;
     let mut line = line;
     let mut i = 0;
     let mut written = 0;
     while i < input.len() {
-        let table = reply.table;
         let e = line_end(input, i);
         if e == input.len() {
             return Done {
@@ -226,7 +220,7 @@ pub fn work(table: Table, line: u64, input: &[u8], out: &mut [u8]) -> Done
                 written,
                 ends: true,
                 line,
-                table,
+                table: t,
             };
         }
         if out.len() - written < ROOM {
@@ -235,7 +229,7 @@ pub fn work(table: Table, line: u64, input: &[u8], out: &mut [u8]) -> Done
                 written,
                 ends: false,
                 line,
-                table,
+                table: t,
             };
         }
         if line == u64::MAX {
@@ -244,29 +238,28 @@ pub fn work(table: Table, line: u64, input: &[u8], out: &mut [u8]) -> Done
                 written,
                 ends: false,
                 line,
-                table,
+                table: t,
             };
         }
         let Line::Known(event) = read_line(&input[i..e]) else {
-            written = write_answer(out, written, line, plain(BROKEN), table.sum, table.total);
+            written = write_answer(out, written, line, plain(BROKEN), t.sum, t.total);
             line += 1;
             i = e + 1;
             continue;
         };
-        reply = table.apply(event);
+        let reply = t.apply(event);
         let answer = reply.answer;
-        let after = reply.table;
-        written = write_answer(out, written, line, show(answer), after.sum, after.total);
+        t = reply.table;
+        written = write_answer(out, written, line, show(answer), t.sum, t.total);
         line += 1;
         i = e + 1;
     }
-    let table = reply.table;
     Done {
         read: i,
         written,
         ends: true,
         line,
-        table,
+        table: t,
     }
 }
 

@@ -4,14 +4,12 @@ ghost use mathlib.Core.List.{[], _∷_, _++_};
 ghost use Prim.Native.Nat.{_+_, _-_, _≤_};
 ghost use lib.ListN.{length};
 ghost use lib.Seq.{sets};
-ghost use Rattle.share.specs.Answers.{refusalNumber};
 ghost use Rattle.lines.specs.Decimal.{digits};
 ghost use Rattle.lines.specs.Places.{lastDigits, Wrote};
 ghost use Rattle.lines.specs.Places.{places as placesOf};
 ghost use Rattle.lines.specs.Pieces.{plainly, shownAs};
 ghost use Rattle.lines.specs.Print.{shownLine, dashes as dashesOf, sums as sumsOf};
 use share::Answer;
-use share::Refusal;
 
 // The answer of a call as it is printed: its number, and what was granted if anything was.
 pub struct Shown {
@@ -115,7 +113,7 @@ pub(crate) fn show(answer: Answer) -> Shown
             slice,
         },
         Answer::Reported { denominator: _ } => plain(0),
-        Answer::Refused(why) => plain(refusal_number(why)),
+        Answer::Refused(why) => plain(why.number()),
     }
 }
 
@@ -127,26 +125,5 @@ pub(crate) fn plain(answer: u64) -> Shown
         granted: false,
         queue: 0,
         slice: 0,
-    }
-}
-
-fn refusal_number(why: Refusal) -> u64
-    ensures { λ r. ⌜ r ≡ refusalNumber why ⌝ }
-{
-    match why {
-        Refusal::Unsound => 1,
-        Refusal::QueueOutside => 2,
-        Refusal::WeightOutside => 3,
-        Refusal::LengthOutside => 4,
-        Refusal::SliceOut => 5,
-        Refusal::NotHolder => 6,
-        Refusal::RowTaken => 7,
-        Refusal::NotAsking => 8,
-        Refusal::LagBelow => 9,
-        Refusal::TicksOutside => 10,
-        Refusal::TableEmpty => 11,
-        Refusal::CeilingPassed => 12,
-        Refusal::ListShort => 13,
-        Refusal::LimitOutside => 14,
     }
 }

@@ -37,7 +37,7 @@ is-sound : (t : Table) → unsound t ≡ false → Sound t
 unfolding unsound
 is-sound t e = sound-says t (not-false _ e)
 
-is-inside : (queue : ℕ) → queueOutside queue ≡ false → queue < queues
+pub is-inside : (queue : ℕ) → queueOutside queue ≡ false → queue < queues
 unfolding queueOutside
 is-inside queue e = leb-false queues queue e
 

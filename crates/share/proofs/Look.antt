@@ -51,14 +51,14 @@ module _ (total sum weight position : ℕ) where
   unfolding lookGoing
   going-fine h l = let test : every (inRange weight position ∷ ltb sum (position * total) ∷ []) ≡ true = each-every _ (h, (lt-ltb sum (position * total) l, tt)) in rw test refl
 
-module _ (total sum weight : ℕ) (q : Request) where
-  pub seen-reached : q .opening * total ≤ sum → deadlineOf weight q ≡ deadlineSeen total sum weight q
+module _ (total sum weight from : ℕ) (q : Request) where
+  pub seen-reached : from * total ≤ sum → deadlineOf weight q ≡ deadlineSeen total sum weight from q
   unfolding deadlineSeen
-  seen-reached h = let test : leb (q .opening * total) sum ≡ true = le-leb (q .opening * total) sum h in rw test refl
+  seen-reached h = let test : leb (from * total) sum ≡ true = le-leb (from * total) sum h in rw test refl
 
-  pub seen-never : sum < q .opening * total → never ≡ deadlineSeen total sum weight q
+  pub seen-never : sum < from * total → never ≡ deadlineSeen total sum weight from q
   unfolding deadlineSeen
-  seen-never h = let test : leb (q .opening * total) sum ≡ false = lt-leb (q .opening * total) sum h in rw test refl
+  seen-never h = let test : leb (from * total) sum ≡ false = lt-leb (from * total) sum h in rw test refl
 
 module _ (total sum weight position : ℕ) (q : Request) where
   pub asking-outside : inRange weight position ≡ false → faulty ≡ lookAsking total sum weight position q
@@ -69,7 +69,7 @@ module _ (total sum weight position : ℕ) (q : Request) where
   unfolding lookAsking
   asking-disorderly h = let test : every (inRange weight position ∷ orderlyRequest weight position q ∷ []) ≡ false = rest-fails _ _ (first-fails _ _ h) in rw test refl
 
-  pub asking-fine : inRange weight position ≡ true → orderlyRequest weight position q ≡ true → (seen : ℕ) → seen ≡ deadlineSeen total sum weight q → record { faults = 0; weight = weight; moment = weight * position; going = beyond; deadline = seen; left = q .length - q .served } ≡ lookAsking total sum weight position q
+  pub asking-fine : inRange weight position ≡ true → orderlyRequest weight position q ≡ true → (seen : ℕ) → seen ≡ deadlineSeen total sum weight (q .opening) q → record { faults = 0; weight = weight; moment = weight * position; going = beyond; deadline = seen; left = q .length - q .served } ≡ lookAsking total sum weight position q
   unfolding lookAsking
   asking-fine h l seen e = let test : every (inRange weight position ∷ orderlyRequest weight position q ∷ []) ≡ true = each-every _ (h, (l, tt)) in rw (e, test) refl
 

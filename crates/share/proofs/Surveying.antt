@@ -25,11 +25,12 @@ use Rattle.share.specs.Table.{row, trueTotal, trueSum}
 use Rattle.share.specs.Sound.{OrderlyAs, OrderlyRow, orderlySlice, Orderly, Ready, Calm, Sound, sound, sliceFor}
 use Rattle.share.specs.Choice.{choice, deadline, chooseFrom}
 use Rattle.share.specs.Events.{sliceAs, chosenOr0, chosen, sliceGiven}
-use Rattle.share.specs.Survey.{never, beyond, Whole, Told, Surveyed}
+use Rattle.share.specs.declared.survey.Look.{Look}
+use Rattle.share.specs.Survey.{never, beyond, firstRow, lookOf, Room, seenNext, Whole, Place, Held, Told, Surveyed, Ended}
 use Rattle.share.proofs.Mean.{some-eligible}
 use Rattle.share.proofs.Release.{ready-inside}
 use Rattle.share.proofs.Sound.{row-past, every-row, orderly-slice, slice-orderly, sound-says, says-sound}
-use Rattle.share.proofs.Walk.{Fine, Passed, SoFar, leftAs}
+use Rattle.share.proofs.Walk.{Fine, Passed, SoFar, leftAs, unseen, walk-starts, walk-next, walk-room}
 
 -- a sound table's rows are fine, and it weighs no more than 64 rows can
 sound-fine : (t : Table) → Sound t → (j : ℕ) → Fine t (row t j .state) (row t j .weight) (row t j .position)
@@ -160,4 +161,68 @@ module _ (t : Table) (seen : Seen) (one-each : length (t .rows) ≡ queues) (wal
             going-told = λ i going. passed .going-below i (going-past i going) going;
             going-high = walked .going-most;
           };
+        }
+
+-- The walk as it goes. A table that weighs more than its rows can is not walked over, and nothing is seen of it.
+pub record Walking (t : Table) (i : ℕ) (s : Seen) : Type 0 where
+  pub inside : i ≤ 64
+  pub so-far : t .total ≤ 1024 → SoFar t i s
+  pub heavy : 1024 < t .total → (64 ≤ i) × (s .weights ≡ 0)
+
+pub walking-starts : (t : Table) → Walking t (firstRow (t .total)) unseen
+walking-starts t = by (le-or-lt 1025 (t .total))
+  where
+    by : (1025 ≤ t .total) ⊎ (t .total < 1025) → Walking t (firstRow (t .total)) unseen
+    by (_⊎_.inl heavy) =
+        rw (lt-ltb 1024 (t .total) (omega arith)) (record { inside = omega arith; so-far = λ light. absurd (omega arith); heavy = λ h. (omega arith, refl) })
+    by (_⊎_.inr light) =
+        rw (le-ltb 1024 (t .total) (omega arith)) (record { inside = omega arith; so-far = λ l. walk-starts t; heavy = λ h. absurd (omega arith) })
+
+module _ (t : Table) (i : ℕ) (s : Seen) (walking : Walking t i s) where
+  module _ (more : i < 64) where
+    pub walking-light : t .total ≤ 1024
+    walking-light = ⊎-elim (λ heavy. absurd (omega (arith, walking .heavy heavy .0))) (λ light. omega arith) (le-or-lt 1025 (t .total))
+
+    pub walking-room : (r : Row) (l : Look) → l ≡ lookOf (t .total) (t .sum) r → Room s l
+    walking-room r l is = walk-room t i s l r more (walking .so-far walking-light) is
+
+    -- one row more
+    pub walking-next : (l : Look) → length (t .rows) ≡ queues → l ≡ lookOf (t .total) (t .sum) (row t i) → Walking t (suc i) (seenNext s i l)
+    walking-next l one-each is =
+        record {
+          inside = omega arith;
+          so-far = λ light. walk-next t i s l (omega arith) (walking .so-far light) is;
+          heavy = λ heavy. absurd (omega (arith, walking-light));
+        }
+
+  -- and as it ends: past the last row, or at a fault
+  module _ (over : (64 ≤ i) ⊎ (0 < s .faults)) (one-each : length (t .rows) ≡ queues) where
+    all-walked : t .total ≤ 1024 → s .faults ≡ 0 → SoFar t 64 s
+    all-walked light clean =
+        ⊎-elim (λ past. subst (λ (j : ℕ). SoFar t j s) (omega (arith, walking .inside)) (walking .so-far light)) (λ fault. absurd (omega arith)) over
+
+    sound-passes : Sound t → Whole s (t .total) (t .sum) (t .limit)
+    sound-passes is =
+        let light = total-most t (is .orderly-table) in
+        let clean : s .faults ≡ 0 = ⊎-elim (λ fault. absurd (fault-unsound t i s (walking .so-far light) fault is)) (λ z. omega arith) (le-or-lt 1 (s .faults)) in
+        sound-whole t s one-each (all-walked light clean) is
+
+    module _ (whole : Whole s (t .total) (t .sum) (t .limit)) where
+      whole-light : t .total ≤ 1024
+      whole-light = ⊎-elim (λ heavy. absurd (omega (arith, walking .heavy heavy .1, whole .total-is))) (λ light. omega arith) (le-or-lt 1025 (t .total))
+
+      whole-walked : SoFar t 64 s
+      whole-walked = all-walked whole-light (whole .no-fault)
+
+    pub walk-ends : (at : ℕ) → Place (t .holder) at → Ended t s (row t at)
+    walk-ends at place =
+        record {
+          sound-whole = sound-passes;
+          whole-held = λ whole. record {
+            one-each = one-each;
+            orderly = each-orderly t s one-each (whole-walked whole) whole at;
+            total-high = whole-light whole;
+            its-row = λ h. ap (λ (j : ℕ). row t j) (sym (place .same h));
+          };
+          whole-tells = λ whole. survey-tells t s one-each (whole-walked whole) whole;
         }

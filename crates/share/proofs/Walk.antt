@@ -115,9 +115,9 @@ look-says t (Asking q) w p =
       going-high = omega arith;
       weight-high = h .0 .weight-high;
       moment-high = moment-fits (h .0);
-      seen = λ g. let d = sym (seen-reached (t .total) (t .sum) w q (reached-yes t (q .opening) g)) in
+      seen = λ g. let d = sym (seen-reached (t .total) (t .sum) w (q .opening) q (reached-yes t (q .opening) g)) in
           (d, subst⁻¹ (λ (x : ℕ). x < never) d (deadline-near w p q (h .0) (h .1)), refl);
-      unseen = λ g. sym (seen-never (t .total) (t .sum) w q (reached-no t (q .opening) g));
+      unseen = λ g. sym (seen-never (t .total) (t .sum) w (q .opening) q (reached-no t (q .opening) g));
     })
     (λ e f. clash (as-orderly (Asking q) w p (f .orderly)) e)
 

@@ -8,12 +8,15 @@ use Rattle.rows.specs.declared.State.{State}
 use Rattle.rows.specs.declared.State.the-variants.{Free, Going, Asking}
 use Rattle.rows.specs.Numbers.{queues, maxWeight, maxLength, ceiling}
 use Rattle.rows.specs.Row.{isFree, isGoing, isAsking}
+use Rattle.share.specs.declared.Event.{Event}
+use Rattle.share.specs.declared.Event.the-variants.{Fresh, Join, Leave, Reweight, Length, Grant, Return}
 use Rattle.share.specs.declared.Table.{Table}
+use Rattle.share.specs.declared.survey.Survey.{Survey}
 use Rattle.share.specs.Table.{row, AtMostV, reached}
 use Rattle.share.specs.Sound.{OrderlyRow as OrderlyTheRow, Orderly as OrderlyTable, Ready, Calm, Sound}
 use Rattle.share.specs.Choice.{deadline}
 use Rattle.share.specs.Events.{chosen}
-use Rattle.share.specs.Survey.{beyond}
+use Rattle.share.specs.Survey.{beyond, Surveyed}
 
 abbrev pub servedAs : State → ℕ
 servedAs Free = 0
@@ -73,6 +76,22 @@ pub record Settling (t : Table) (going : ℕ) : Type 0 where
   pub orderly : OrderlyTable t
   pub still : t .out ≡ false
   pub ahead : Ahead t going
+
+-- the queue that an event names; 0 if it names none
+abbrev pub named : Event → ℕ
+named (Fresh limit) = 0
+named (Join queue weight length) = queue
+named (Leave queue) = queue
+named (Reweight queue weight length) = queue
+named (Length queue length) = queue
+named Grant = 0
+named (Return queue used early) = queue
+
+-- a survey of the table, and the row that the event names, or some row if there is none of that number
+pub record Judging (t : Table) (e : Event) (s : Survey) (r : Row) : Type 0 where
+  pub surveyed : Surveyed t s
+  pub its-row : named e < queues → row t (named e) ≡ r
+  pub near : Sound t → r .position ≤ ceiling
 
 -- what an accepted call may rest on
 pub record Joins (t : Table) (queue weight length : ℕ) : Type 0 where

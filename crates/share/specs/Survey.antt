@@ -17,7 +17,7 @@ use Rattle.share.specs.declared.survey.Seen.{Seen}
 use Rattle.share.specs.declared.survey.Survey.{Survey}
 use Rattle.share.specs.declared.Table.{Table}
 use Rattle.share.specs.Table.{row}
-use Rattle.share.specs.Sound.{orderlyAs, OrderlyRow, sound}
+use Rattle.share.specs.Sound.{orderlyAs, OrderlyRow, orderlySlice, Sound, sound}
 use Rattle.share.specs.Choice.{deadline}
 use Rattle.share.specs.Events.{chosen, sliceGiven}
 
@@ -43,8 +43,8 @@ lookGoing total sum weight position =
     (record { faults = 0; weight = weight; moment = weight * position; going = position; deadline = never; left = 0 })
     faulty
 
-unfoldable pub deadlineSeen : ℕ → ℕ → ℕ → Request → ℕ
-deadlineSeen total sum weight q = cond (leb (q .opening * total) sum) (deadlineOf weight q) never
+unfoldable pub deadlineSeen : ℕ → ℕ → ℕ → ℕ → Request → ℕ
+deadlineSeen total sum weight from q = cond (leb (from * total) sum) (deadlineOf weight q) never
 
 unfoldable pub lookAsking : ℕ → ℕ → ℕ → ℕ → Request → Look
 lookAsking total sum weight position q =
@@ -54,7 +54,7 @@ lookAsking total sum weight position q =
       weight = weight;
       moment = weight * position;
       going = beyond;
-      deadline = deadlineSeen total sum weight q;
+      deadline = deadlineSeen total sum weight (q .opening) q;
       left = q .length - q .served;
     })
     faulty
@@ -66,6 +66,10 @@ lookAs total sum (Asking q) weight position = lookAsking total sum weight positi
 
 unfoldable pub lookOf : ℕ → ℕ → Row → Look
 lookOf total sum r = lookAs total sum (r .state) (r .weight) (r .position)
+
+-- a table that weighs more than its rows can is not walked over
+abbrev pub firstRow : ℕ → ℕ
+firstRow total = cond (ltb 1024 total) 64 0
 
 -- the sums fit with one row more
 pub record Room (s : Seen) (l : Look) : Type 0 where
@@ -125,3 +129,9 @@ pub record Told (t : Table) (s : Survey) : Type 0 where
 pub record Surveyed (t : Table) (s : Survey) : Type 0 where
   pub sound-told : s .sound ≡ sound t
   pub told : sound t ≡ true → Told t s
+
+-- the walk is over: whether the table passed it is whether its rows and sums are sound, and the survey may be told from it
+pub record Ended (t : Table) (s : Seen) (r : Row) : Type 0 where
+  pub sound-whole : Sound t → Whole s (t .total) (t .sum) (t .limit)
+  pub whole-held : Whole s (t .total) (t .sum) (t .limit) → Held t r
+  pub whole-tells : Whole s (t .total) (t .sum) (t .limit) → (b : Bool) → b ≡ orderlySlice t (t .out) → Surveyed t (record { sound = b; queue = s .queue; deadline = s .deadline; left = s .left; going = s .going })

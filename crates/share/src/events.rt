@@ -42,14 +42,14 @@ fn opened(position: u64, length: u64) -> Request
 }
 
 // A row's part in A.
-fn moment(row: Row) -> u64
+pub(crate) fn moment(row: Row) -> u64
     requires { ⌜ asks.OrderlyRow row ⌝ }
     ensures { λ r. ⌜ r ≡ rows.momentIn row ⌝ }
 {
     row.weight * row.position
 }
 
-fn exchanged(sum: u64, out: u64, into: u64) -> u64
+pub(crate) fn exchanged(sum: u64, out: u64, into: u64) -> u64
     requires { ⌜ asks.Exchanging sum out into ⌝ }
     ensures { λ r. ⌜ r ≡ sum + into - out ⌝ }
 {
@@ -98,7 +98,7 @@ impl Table {
     }
 
     // Going rows that V has reached are freed until there is none; freeing one may make another ready.
-    fn released(self) -> Table
+    pub(crate) fn released(self) -> Table
         requires { ⌜ asks.Releasing self ⌝ }
         ensures { λ r. ⌜ r ≡ release.released self ⌝ }
     {
@@ -194,19 +194,6 @@ impl Table {
         let meant = length_meant(length);
         self.placed(queue, next_set(row, meant))
     }
-
-    pub(crate) fn returned(self, queue: u64, used: u64, early: bool, going: u64) -> Table
-        requires { ⌜ (asks.Returns self queue used) × (asks.Ahead self going) ⌝ }
-        ensures { λ r. ⌜ r ≡ events.returned self queue used early ⌝ }
-    {
-        let at = queue as usize;
-        let mut t = self;
-        let row = t.rows[at];
-        t.out = false;
-        t.holder = 0;
-        t.ticks = 0;
-        t.placed(queue, charged(row, used, early)).settled(going)
-    }
 }
 
 fn next_set(row: Row, length: u64) -> Row
@@ -256,7 +243,7 @@ fn served(q: Request, position: u64, used: u64, early: bool) -> Request
     }
 }
 
-fn charged(row: Row, used: u64, early: bool) -> Row
+pub(crate) fn charged(row: Row, used: u64, early: bool) -> Row
     requires { ⌜ asks.Charging row used ⌝ }
     ensures { λ r. ⌜ r ≡ events.charged row used early ⌝ }
 {

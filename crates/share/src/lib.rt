@@ -2,9 +2,11 @@
 ghost use mathlib.Core.Path.{_≡_};
 ghost use Prim.Native.Nat.{_≤_};
 ghost use Rattle.share.specs.Events.{emptyTable};
-ghost use Rattle.share.specs.Calls.{accepted, freshReply, grantReply, grantedReply, joinReply, lagList, lagReply, leaveReply, lengthReply, refused, releaseReply, renewReply, reportedReply, returnReply, reweightReply};
+ghost use Rattle.share.specs.Calls.{accepted, freshReply, grantReply, joinReply, lagList, lagReply, leaveReply, lengthReply, refused, releaseReply, reportedReply, returnReply, reweightReply};
+ghost use Rattle.share.specs.Answers.{number};
 ghost use Rattle.share.specs.Asks as asks;
 ghost use Rattle.share.specs.Refusals as checks;
+ghost use Rattle.share.specs.Sound.{sound};
 ghost use Rattle.share.specs.Runs.{step};
 
 mod events;
@@ -12,16 +14,20 @@ mod lags;
 mod refuse;
 mod survey;
 
+use events::charged;
+use events::exchanged;
+use events::moment;
 use refuse::NO_REASON;
 use refuse::Reasons;
 use refuse::Verdict;
-use refuse::is_asking;
-use refuse::is_free;
-use refuse::length_outside;
-use refuse::queue_outside;
 use rows::Row;
 use rows::State;
+use survey::UNSEEN;
+use survey::first_row;
 use survey::lesser;
+use survey::look_at;
+use survey::place;
+use survey::seen_next;
 
 // W is total and A is sum; holder and ticks are those of the slice that is out, and zero when none is.
 pub struct Table {
@@ -127,66 +133,37 @@ impl Table {
         }
     }
 
+    // Refused, it has no table to hand back and gives the empty one with slice limit 1.
     pub fn fresh(limit: u64) -> Reply
         ensures { λ r. ⌜ r ≡ freshReply limit ⌝ }
     {
-        let reasons = Reasons {
-            limit_outside: outside(limit, 1, Table::MAX_LIMIT),
-            ..NO_REASON
-        };
-        match reasons.first() {
-            Verdict::Refused(why) => Table::empty(1).refused(why),
-            Verdict::Fine => Table::empty(limit).accepted(),
-        }
+        Table::empty(1).apply(Event::Fresh { limit })
     }
 
     // The queue enters at the least whole number not below V and opens its first request.
     pub fn join(self, queue: u64, weight: u64, length: u64) -> Reply
         ensures { λ r. ⌜ r ≡ joinReply self queue weight length ⌝ }
     {
-        let seen = self.survey();
-        let row = self.row_of(queue);
-        let reasons = Reasons {
-            unsound: !seen.sound,
-            queue_outside: queue_outside(queue),
-            weight_outside: outside(weight, 1, Table::MAX_WEIGHT),
-            length_outside: length_outside(length),
-            slice_out: self.out,
-            row_taken: !is_free(row),
-            ..NO_REASON
-        };
-        match reasons.first() {
-            Verdict::Refused(why) => self.refused(why),
-            Verdict::Fine => self.joined(queue, weight, length, seen.going).accepted(),
-        }
+        self.apply(Event::Join {
+            queue,
+            weight,
+            length,
+        })
     }
 
     // Freed if V has reached it, or else going until V does.
     pub fn leave(self, queue: u64) -> Reply
         ensures { λ r. ⌜ r ≡ leaveReply self queue ⌝ }
     {
-        let seen = self.survey();
-        let row = self.row_of(queue);
-        let reasons = Reasons {
-            unsound: !seen.sound,
-            queue_outside: queue_outside(queue),
-            slice_out: self.out,
-            not_asking: !is_asking(row),
-            ..NO_REASON
-        };
-        match reasons.first() {
-            Verdict::Refused(why) => self.refused(why),
-            Verdict::Fine => self.left(queue, seen.going).accepted(),
-        }
+        self.apply(Event::Leave { queue })
     }
 
     // Every call ends in its release, so a sound table has no row left to free.
     pub fn release(self) -> Reply
         ensures { λ r. ⌜ r ≡ releaseReply self ⌝ }
     {
-        let seen = self.survey();
         let reasons = Reasons {
-            unsound: !seen.sound,
+            unsound: !self.is_sound(),
             ..NO_REASON
         };
         match reasons.first() {
@@ -199,79 +176,32 @@ impl Table {
     pub fn reweight(self, queue: u64, weight: u64, length: u64) -> Reply
         ensures { λ r. ⌜ r ≡ reweightReply self queue weight length ⌝ }
     {
-        let seen = self.survey();
-        let row = self.row_of(queue);
-        let reasons = Reasons {
-            unsound: !seen.sound,
-            queue_outside: queue_outside(queue),
-            weight_outside: outside(weight, 1, Table::MAX_WEIGHT),
-            length_outside: length_outside(length),
-            slice_out: self.out,
-            not_asking: !is_asking(row),
-            lag_below: self.lag_below(seen.sound, row),
-            ..NO_REASON
-        };
-        match reasons.first() {
-            Verdict::Refused(why) => self.refused(why),
-            Verdict::Fine => self.reweighted(queue, weight, length, seen.going)
-                .accepted(),
-        }
+        self.apply(Event::Reweight {
+            queue,
+            weight,
+            length,
+        })
     }
 
     // Sets the length of the next request; the open one stays.
     pub fn length(self, queue: u64, length: u64) -> Reply
         ensures { λ r. ⌜ r ≡ lengthReply self queue length ⌝ }
     {
-        let seen = self.survey();
-        let row = self.row_of(queue);
-        let reasons = Reasons {
-            unsound: !seen.sound,
-            queue_outside: queue_outside(queue),
-            length_outside: length_outside(length),
-            slice_out: self.out,
-            not_asking: !is_asking(row),
-            ..NO_REASON
-        };
-        match reasons.first() {
-            Verdict::Refused(why) => self.refused(why),
-            Verdict::Fine => self.length_set(queue, length).accepted(),
-        }
+        self.apply(Event::Length { queue, length })
     }
 
     // The engine goes to the eligible request with the least deadline, for a slice.
     pub fn grant(self) -> Reply
         ensures { λ r. ⌜ r ≡ grantReply self ⌝ }
     {
-        let seen = self.survey();
-        let reasons = Reasons {
-            unsound: !seen.sound,
-            slice_out: self.out,
-            table_empty: self.total == 0,
-            ceiling_passed: Table::CEILING < seen.deadline,
-            ..NO_REASON
-        };
-        match reasons.first() {
-            Verdict::Refused(why) => self.refused(why),
-            Verdict::Fine => self.granted(seen.queue, lesser(self.limit, seen.left)),
-        }
+        self.apply(Event::Grant)
     }
 
     // The slice comes back with the ticks used; the request goes on, or the next one opens.
     pub fn return_slice(self, queue: u64, used: u64, early: bool) -> Reply
         ensures { λ r. ⌜ r ≡ returnReply self queue used early ⌝ }
     {
-        let seen = self.survey();
-        let reasons = Reasons {
-            unsound: !seen.sound,
-            queue_outside: queue_outside(queue),
-            not_holder: self.not_holder(queue),
-            ticks_outside: self.ticks < used,
-            ..NO_REASON
-        };
-        match reasons.first() {
-            Verdict::Refused(why) => self.refused(why),
-            Verdict::Fine => self.returned(queue, used, early, seen.going).accepted(),
-        }
+        self.apply(Event::Return { queue, used, early })
     }
 
     // Each row's lag, as the numerator over the common denominator W x 720,720. Entries 64 and up are kept.
@@ -279,9 +209,8 @@ impl Table {
         ensures told { λ r. ⌜ r ≡ lagReply self (now (list .entry)) ⌝ }
         ensures written { λ r. ⌜ now (list .exit) ≡ lagList self (now (list .entry)) ⌝ }
     {
-        let seen = self.survey();
         let reasons = Reasons {
-            unsound: !seen.sound,
+            unsound: !self.is_sound(),
             list_short: list.len() < 64,
             ..NO_REASON
         };
@@ -294,63 +223,100 @@ impl Table {
         }
     }
 
-    // One event of a run: the door for every program. A refused fresh keeps the present table.
+    // One event of a run: the door for every program and every call, and the one place where a table is changed. Its rows are walked over once, the
+    // event is judged by what was seen, and done where no refusal applies. A refused fresh keeps the present table.
     pub fn apply(self, event: Event) -> Reply
         ensures { λ r. ⌜ r ≡ step self event ⌝ }
     {
-        match event {
-            Event::Fresh { limit } => self.renewed(limit),
-            Event::Join {
-                queue,
-                weight,
-                length,
-            } => self.join(queue, weight, length),
-            Event::Leave { queue } => self.leave(queue),
-            Event::Reweight {
-                queue,
-                weight,
-                length,
-            } => self.reweight(queue, weight, length),
-            Event::Length { queue, length } => self.length(queue, length),
-            Event::Grant => self.grant(),
-            Event::Return { queue, used, early } => self.return_slice(queue, used, early),
+        let mut t = self;
+        let total = t.total;
+        let sum = t.sum;
+        let holder = t.holder;
+        let steps = rows::STEPS;
+        let mut walked = UNSEEN;
+        let mut i = first_row(total);
+        while i < 64 {
+            let row = t.rows[i];
+            let seeing = look_at(row, &steps, total, sum);
+            walked = seen_next(walked, i as u64, seeing);
+            let faults = walked.faults;
+            if 0 < faults {
+                break;
+            }
+            i += 1;
         }
+        let out = place(holder);
+        let held = t.rows[out];
+        let seen = t.survey(walked, held);
+        let at = place(event.named());
+        let row = t.rows[at];
+        let mut answer = Answer::Accepted;
+        match t.reasons(event, seen, row).first() {
+            Verdict::Refused(why) => {
+                answer = Answer::Refused(why);
+            }
+            Verdict::Fine => {
+                match event {
+                    Event::Fresh { limit } => {
+                        t = Table::empty(limit);
+                    }
+                    Event::Join {
+                        queue,
+                        weight,
+                        length,
+                    } => {
+                        t = t.joined(queue, weight, length, seen.going);
+                    }
+                    Event::Leave { queue } => {
+                        t = t.left(queue, seen.going);
+                    }
+                    Event::Reweight {
+                        queue,
+                        weight,
+                        length,
+                    } => {
+                        t = t.reweighted(queue, weight, length, seen.going);
+                    }
+                    Event::Length { queue, length } => {
+                        t = t.length_set(queue, length);
+                    }
+                    Event::Grant => {
+                        let queue = seen.queue;
+                        let slice = lesser(t.limit, seen.left);
+                        t.out = true;
+                        t.holder = queue;
+                        t.ticks = slice;
+                        answer = Answer::Granted { queue, slice };
+                    }
+                    Event::Return {
+                        queue: _,
+                        used,
+                        early,
+                    } => {
+                        let going = seen.going;
+                        let next = charged(row, used, early);
+                        t.rows[at] = next;
+                        t.sum = exchanged(sum, moment(row), moment(next));
+                        t.out = false;
+                        t.holder = 0;
+                        t.ticks = 0;
+                        if going * total <= t.sum {
+                            t = t.released();
+                        }
+                    }
+                }
+            }
+        }
+        Reply { answer, table: t }
     }
 
-    fn renewed(self, limit: u64) -> Reply
-        ensures { λ r. ⌜ r ≡ renewReply self limit ⌝ }
+    // A leave of a queue that there is not is refused in any case: by 1 where the table is unsound, and else by 2.
+    fn is_sound(self) -> bool
+        ensures { λ r. ⌜ r ≡ sound self ⌝ }
     {
-        let reasons = Reasons {
-            limit_outside: outside(limit, 1, Table::MAX_LIMIT),
-            ..NO_REASON
-        };
-        match reasons.first() {
-            Verdict::Refused(why) => self.refused(why),
-            Verdict::Fine => Table::empty(limit).accepted(),
-        }
-    }
-
-    fn not_holder(self, queue: u64) -> bool
-        ensures { λ r. ⌜ r ≡ checks.notHolder self queue ⌝ }
-    {
-        let out = self.out;
-        let holder = self.holder;
-        if out {
-            return queue != holder;
-        }
-        true
-    }
-
-    // The row's lag is below zero, if the table is sound.
-    fn lag_below(self, sound: bool, row: Row) -> bool
-        requires { ⌜ asks.NearIf sound self (row .position) ⌝ }
-        ensures { λ r. ⌜ asks.LagTold sound self (row .position) r ⌝ }
-    {
-        let position = row.position;
-        if sound {
-            return !self.has_reached(position);
-        }
-        false
+        let reply = self.leave(Table::QUEUES);
+        let answer = reply.answer;
+        answer.number() != 1
     }
 
     fn reported(self) -> Reply
@@ -362,19 +328,6 @@ impl Table {
                 denominator: self.total * rows::UNIT,
             },
             table: self,
-        }
-    }
-
-    fn granted(self, queue: u64, slice: u64) -> Reply
-        ensures { λ r. ⌜ r ≡ grantedReply self queue slice ⌝ }
-    {
-        let mut t = self;
-        t.out = true;
-        t.holder = queue;
-        t.ticks = slice;
-        Reply {
-            answer: Answer::Granted { queue, slice },
-            table: t,
         }
     }
 
@@ -393,6 +346,37 @@ impl Table {
         Reply {
             answer: Answer::Refused(why),
             table: self,
+        }
+    }
+}
+
+impl Answer {
+    // 0 where nothing was refused, or else the refusal's number.
+    pub fn number(self) -> u64
+        ensures { λ r. ⌜ r ≡ number self ⌝ }
+    {
+        match self {
+            Answer::Accepted => 0,
+            Answer::Granted { .. } => 0,
+            Answer::Reported { .. } => 0,
+            Answer::Refused(why) => why.number(),
+        }
+    }
+}
+
+impl Event {
+    // The queue that the event names; 0 if it names none.
+    fn named(self) -> u64
+        ensures { λ r. ⌜ r ≡ asks.named self ⌝ }
+    {
+        match self {
+            Event::Fresh { .. } => 0,
+            Event::Join { queue, .. } => queue,
+            Event::Leave { queue } => queue,
+            Event::Reweight { queue, .. } => queue,
+            Event::Length { queue, .. } => queue,
+            Event::Grant => 0,
+            Event::Return { queue, .. } => queue,
         }
     }
 }

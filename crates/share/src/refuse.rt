@@ -2,10 +2,16 @@
 ghost use mathlib.Core.Path.{_≡_};
 ghost use Rattle.rows.specs.Numbers.{queues};
 ghost use Rattle.rows.specs.Row as rows;
+ghost use Rattle.share.specs.Answers.{refusalNumber};
+ghost use Rattle.share.specs.Asks as asks;
 ghost use Rattle.share.specs.Refusals as checks;
+ghost use Rattle.share.specs.Runs.{checksOf};
 ghost use Rattle.share.specs.Verdict.{verdictOf, allChecks};
+use crate::Event;
 use crate::Refusal;
 use crate::Table;
+use crate::outside;
+use crate::survey::Survey;
 use rows::Row;
 use rows::State;
 
@@ -25,6 +31,30 @@ pub struct Reasons {
     pub ceiling_passed: bool,
     pub list_short: bool,
     pub limit_outside: bool,
+}
+
+impl Refusal {
+    // As document 01 numbers them.
+    pub fn number(self) -> u64
+        ensures { λ r. ⌜ r ≡ refusalNumber self ⌝ }
+    {
+        match self {
+            Refusal::Unsound => 1,
+            Refusal::QueueOutside => 2,
+            Refusal::WeightOutside => 3,
+            Refusal::LengthOutside => 4,
+            Refusal::SliceOut => 5,
+            Refusal::NotHolder => 6,
+            Refusal::RowTaken => 7,
+            Refusal::NotAsking => 8,
+            Refusal::LagBelow => 9,
+            Refusal::TicksOutside => 10,
+            Refusal::TableEmpty => 11,
+            Refusal::CeilingPassed => 12,
+            Refusal::ListShort => 13,
+            Refusal::LimitOutside => 14,
+        }
+    }
 }
 
 pub enum Verdict {
@@ -48,6 +78,100 @@ pub const NO_REASON: Reasons = Reasons {
     list_short: false,
     limit_outside: false,
 };
+
+impl Table {
+    // What speaks against an event, by the survey of the table and the row that it names.
+    pub(crate) fn reasons(self, event: Event, seen: Survey, row: Row) -> Reasons
+        requires { ⌜ asks.Judging self event seen row ⌝ }
+        ensures { λ r. ⌜ checks.firstOf (allChecks r) ≡ checks.firstOf (checksOf self event) ⌝ }
+    {
+        match event {
+            Event::Fresh { limit } => Reasons {
+                limit_outside: outside(limit, 1, Table::MAX_LIMIT),
+                ..NO_REASON
+            },
+            Event::Join {
+                queue,
+                weight,
+                length,
+            } => Reasons {
+                unsound: !seen.sound,
+                queue_outside: queue_outside(queue),
+                weight_outside: outside(weight, 1, Table::MAX_WEIGHT),
+                length_outside: length_outside(length),
+                slice_out: self.out,
+                row_taken: !is_free(row),
+                ..NO_REASON
+            },
+            Event::Leave { queue } => Reasons {
+                unsound: !seen.sound,
+                queue_outside: queue_outside(queue),
+                slice_out: self.out,
+                not_asking: !is_asking(row),
+                ..NO_REASON
+            },
+            Event::Reweight {
+                queue,
+                weight,
+                length,
+            } => Reasons {
+                unsound: !seen.sound,
+                queue_outside: queue_outside(queue),
+                weight_outside: outside(weight, 1, Table::MAX_WEIGHT),
+                length_outside: length_outside(length),
+                slice_out: self.out,
+                not_asking: !is_asking(row),
+                lag_below: self.lag_below(seen.sound, row),
+                ..NO_REASON
+            },
+            Event::Length { queue, length } => Reasons {
+                unsound: !seen.sound,
+                queue_outside: queue_outside(queue),
+                length_outside: length_outside(length),
+                slice_out: self.out,
+                not_asking: !is_asking(row),
+                ..NO_REASON
+            },
+            Event::Grant => Reasons {
+                unsound: !seen.sound,
+                slice_out: self.out,
+                table_empty: self.total == 0,
+                ceiling_passed: Table::CEILING < seen.deadline,
+                ..NO_REASON
+            },
+            Event::Return { queue, used, early } => Reasons {
+                unsound: !seen.sound,
+                queue_outside: queue_outside(queue),
+                not_holder: self.not_holder(queue),
+                ticks_outside: self.ticks < used,
+                ..NO_REASON
+            },
+        }
+    }
+
+    fn not_holder(self, queue: u64) -> bool
+        ensures { λ r. ⌜ r ≡ checks.notHolder self queue ⌝ }
+    {
+        let out = self.out;
+        let holder = self.holder;
+        if out {
+            return queue != holder;
+        }
+        true
+    }
+
+    // The row's lag is below zero, if the table is sound.
+    fn lag_below(self, sound: bool, row: Row) -> bool
+        requires { ⌜ asks.NearIf sound self (row .position) ⌝ }
+        ensures { λ r. ⌜ asks.LagTold sound self (row .position) r ⌝ }
+    {
+        let position = row.position;
+        if sound {
+            return !self.has_reached(position);
+        }
+        false
+    }
+}
 
 impl Reasons {
     // In the order of the numbers, 1 to 14.

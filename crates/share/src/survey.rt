@@ -57,7 +57,7 @@ const FAULTY: Look = Look {
     left: 0,
 };
 
-const UNSEEN: Seen = Seen {
+pub(crate) const UNSEEN: Seen = Seen {
     faults: 0,
     weights: 0,
     moments: 0,
@@ -148,14 +148,14 @@ fn look_going(weight: u64, position: u64, total: u64, sum: u64) -> Look
     }
 }
 
-// The deadline of a request that V has reached the opening of.
-fn deadline_seen(q: Request, step: u64, weight: u64, total: u64, sum: u64) -> u64
-    requires { ⌜ (q .opening ≤ ceiling) × (q .length ≤ maxLength) × (step ≡ stepOf weight) × (total ≤ 1024) ⌝ }
-    ensures { λ r. ⌜ r ≡ told.deadlineSeen total sum weight q ⌝ }
+// The deadline of a request that may be served, V having reached the position from which it may.
+fn deadline_seen(q: Request, from: u64, step: u64, weight: u64, total: u64, sum: u64) -> u64
+    requires { ⌜ (from ≤ ceiling) × (q .opening ≤ ceiling) × (q .length ≤ maxLength) × (step ≡ stepOf weight) × (total ≤ 1024) ⌝ }
+    ensures { λ r. ⌜ r ≡ told.deadlineSeen total sum weight from q ⌝ }
 {
     let opening = q.opening;
     let length = q.length;
-    if opening * total <= sum {
+    if from * total <= sum {
         return opening + length * step;
     }
     NEVER
@@ -176,12 +176,12 @@ fn look_asking(q: Request, step: u64, weight: u64, position: u64, total: u64, su
         weight,
         moment: weight * position,
         going: BEYOND,
-        deadline: deadline_seen(q, step, weight, total, sum),
+        deadline: deadline_seen(q, q.opening, step, weight, total, sum),
         left: q.length - q.served,
     }
 }
 
-fn look_at(row: Row, steps: &[u64; 16], total: u64, sum: u64) -> Look
+pub(crate) fn look_at(row: Row, steps: &[u64; 16], total: u64, sum: u64) -> Look
     requires { ⌜ (now steps ≡ allSteps) × (total ≤ 1024) ⌝ }
     ensures { λ r. ⌜ r ≡ told.lookOf total sum row ⌝ }
 {
@@ -212,7 +212,7 @@ pub(crate) fn lesser(a: u64, b: u64) -> u64
 }
 
 // One row more. A deadline takes the best one's place only where it is earlier, so ties stay with the lower number.
-fn seen_next(seen: Seen, at: u64, seeing: Look) -> Seen
+pub(crate) fn seen_next(seen: Seen, at: u64, seeing: Look) -> Seen
     requires { ⌜ told.Room seen seeing ⌝ }
     ensures { λ r. ⌜ r ≡ told.seenNext seen at seeing ⌝ }
 {
@@ -241,6 +241,16 @@ fn seen_next(seen: Seen, at: u64, seeing: Look) -> Seen
     }
 }
 
+// Where the walk begins. A table that weighs more than 64 rows can is not walked over, so that no product overflows: nothing seen, it does not pass.
+pub(crate) fn first_row(total: u64) -> usize
+    ensures { λ r. ⌜ r ≡ told.firstRow total ⌝ }
+{
+    if MAX_TOTAL < total {
+        return 64;
+    }
+    0
+}
+
 fn whole(seen: Seen, total: u64, sum: u64, limit: u64) -> bool
     ensures { λ r. ⌜ Decides r (told.Whole seen total sum limit) ⌝ }
 {
@@ -263,7 +273,7 @@ fn whole(seen: Seen, total: u64, sum: u64, limit: u64) -> bool
 }
 
 // A queue number as a place among the rows; 0 where there is no such row.
-fn place(queue: u64) -> usize
+pub(crate) fn place(queue: u64) -> usize
     ensures { λ r. ⌜ told.Place queue r ⌝ }
 {
     if queue < Table::QUEUES {
@@ -326,40 +336,23 @@ impl Table {
         ticks == 0
     }
 
-    pub(crate) fn survey(self) -> Survey
+    // What the walk over the rows tells, with the row of the queue that holds the slice.
+    pub(crate) fn survey(self, walked: Seen, held: Row) -> Survey
+        requires { ⌜ told.Ended self walked held ⌝ }
         ensures { λ r. ⌜ told.Surveyed self r ⌝ }
     {
         let total = self.total;
         let sum = self.sum;
         let limit = self.limit;
-        let holder = self.holder;
-        if MAX_TOTAL < total {
+        if !whole(walked, total, sum, limit) {
             return UNSOUND;
         }
-        let steps = rows::STEPS;
-        let mut seen = UNSEEN;
-        let mut i: usize = 0;
-        while i < 64 {
-            let row = self.rows[i];
-            let seeing = look_at(row, &steps, total, sum);
-            seen = seen_next(seen, i as u64, seeing);
-            let faults = seen.faults;
-            if 0 < faults {
-                return UNSOUND;
-            }
-            i += 1;
-        }
-        if !whole(seen, total, sum, limit) {
-            return UNSOUND;
-        }
-        let at = place(holder);
-        let held = self.rows[at];
         Survey {
             sound: self.slice_orderly(held),
-            queue: seen.queue,
-            deadline: seen.deadline,
-            left: seen.left,
-            going: seen.going,
+            queue: walked.queue,
+            deadline: walked.deadline,
+            left: walked.left,
+            going: walked.going,
         }
     }
 }

@@ -12,43 +12,43 @@ use Rattle.lines.proofs.work.Statement.{statement}
 use Rattle.lines.proofs.work.Tie as tie
 
 abbrev Inv-loop : tie.InvT-loop
-Inv-loop line input out₀ reply₀ line₀ i₀ written₀ out reply line' i written = Working line (reply₀ .table) input out₀ out (reply .table) line' i written
+Inv-loop line input out₀ table₀ line₀ i₀ written₀ out table line' i written = Working line table₀ input out₀ out table line' i written
 
 abbrev μ-loop : tie.MeasureT-loop
-μ-loop line input out₀ reply₀ line₀ i₀ written₀ out reply line' i written = length input - i
+μ-loop line input out₀ table₀ line₀ i₀ written₀ out table line' i written = length input - i
 
 loop-holds : tie.Need-loop-holds Inv-loop μ-loop
 loop-holds c = working-first _ _ _ _ (omega (arith, c .before .before .fits .line))
 
 line-end-requires : tie.Need-line-end-requires Inv-loop μ-loop
-line-end-requires c κs = c .before .before .loop .inv .within
+line-end-requires c κs = c .before .loop .inv .within
 
 same-length : tie.Need-same-length Inv-loop μ-loop
-same-length c = c .before .before .before .before .loop .inv .same
+same-length c = c .before .before .before .loop .inv .same
 
 returns : tie.Need-returns Inv-loop μ-loop
 returns c =
-    let k = c .before .before .before .before in
-    working-ended (k .before .before .before .args .line) (k .before .before .before .args .table) (now (k .before .before .before .args .input)) (now (k .before .before .before .args .out)) (k .loop .out) (k .loop .reply .table) (k .loop .line) (k .loop .i) (k .loop .written) (k .loop .inv) (at-last-line (k .before .before .before .args .line) (k .before .before .before .args .table) (now (k .before .before .before .args .input)) (now (k .before .before .before .args .out)) (k .loop .out) (k .loop .reply .table) (k .loop .line) (k .loop .i) (k .loop .written) (k .loop .inv) (sym (c .before .line-end .ensures) ∙ c .if1 .taken))
+    let k = c .before .before .before in
+    working-ended (k .before .before .before .args .line) (k .before .before .before .args .table) (now (k .before .before .before .args .input)) (now (k .before .before .before .args .out)) (k .loop .out) (k .loop .t) (k .loop .line) (k .loop .i) (k .loop .written) (k .loop .inv) (at-last-line (k .before .before .before .args .line) (k .before .before .before .args .table) (now (k .before .before .before .args .input)) (now (k .before .before .before .args .out)) (k .loop .out) (k .loop .t) (k .loop .line) (k .loop .i) (k .loop .written) (k .loop .inv) (sym (c .before .line-end .ensures) ∙ c .if1 .taken))
 
 sub-if2 : tie.Need-sub-if2 Inv-loop μ-loop
-sub-if2 c = c .before .before .before .before .loop .inv .room
+sub-if2 c = c .before .before .before .loop .inv .room
 
 same-length-2 : tie.Need-same-length-2 Inv-loop μ-loop
-same-length-2 c = c .before .before .before .before .before .loop .inv .same
+same-length-2 c = c .before .before .before .before .loop .inv .same
 
 returns-2 : tie.Need-returns-2 Inv-loop μ-loop
 returns-2 c =
-    let k = c .before .before .before .before .before in
-    working-stopped (k .before .before .before .args .line) (k .before .before .before .args .table) (now (k .before .before .before .args .input)) (now (k .before .before .before .args .out)) (k .loop .out) (k .loop .reply .table) (k .loop .line) (k .loop .i) (k .loop .written) (k .loop .inv) (_⊎_.inl (omega (arith, c .if2 .taken, k .loop .inv .room)))
+    let k = c .before .before .before .before in
+    working-stopped (k .before .before .before .args .line) (k .before .before .before .args .table) (now (k .before .before .before .args .input)) (now (k .before .before .before .args .out)) (k .loop .out) (k .loop .t) (k .loop .line) (k .loop .i) (k .loop .written) (k .loop .inv) (_⊎_.inl (omega (arith, c .if2 .taken, k .loop .inv .room)))
 
 same-length-3 : tie.Need-same-length-3 Inv-loop μ-loop
-same-length-3 c = c .before .before .before .before .before .before .loop .inv .same
+same-length-3 c = c .before .before .before .before .before .loop .inv .same
 
 returns-3 : tie.Need-returns-3 Inv-loop μ-loop
 returns-3 c =
-    let k = c .before .before .before .before .before .before in
-    working-stopped (k .before .before .before .args .line) (k .before .before .before .args .table) (now (k .before .before .before .args .input)) (now (k .before .before .before .args .out)) (k .loop .out) (k .loop .reply .table) (k .loop .line) (k .loop .i) (k .loop .written) (k .loop .inv) (_⊎_.inr (omega (arith, c .if3 .taken)))
+    let k = c .before .before .before .before .before in
+    working-stopped (k .before .before .before .args .line) (k .before .before .before .args .table) (now (k .before .before .before .args .input)) (now (k .before .before .before .args .out)) (k .loop .out) (k .loop .t) (k .loop .line) (k .loop .i) (k .loop .written) (k .loop .inv) (_⊎_.inr (omega (arith, c .if3 .taken)))
 
 sub-read-line : tie.Need-sub-read-line Inv-loop μ-loop
 sub-read-line c = omega (arith, c .before .before .before .line-end .ensures)
@@ -58,8 +58,8 @@ part-read-line-start c = omega (arith, c .before .before .before .line-end .ensu
 
 part-read-line-end : tie.Need-part-read-line-end Inv-loop μ-loop
 part-read-line-end c =
-    let k = c .before .before .before .before .before .before in
-    end-within (k .before .before .before .args .line) (k .before .before .before .args .table) (now (k .before .before .before .args .input)) (now (k .before .before .before .args .out)) (k .loop .out) (k .loop .reply .table) (k .loop .line) (k .loop .i) (k .loop .written) (k .loop .inv) (c .before .before .before .line-end .result) (c .before .before .before .line-end .ensures)
+    let k = c .before .before .before .before .before in
+    end-within (k .before .before .before .args .line) (k .before .before .before .args .table) (now (k .before .before .before .args .input)) (now (k .before .before .before .args .out)) (k .loop .out) (k .loop .t) (k .loop .line) (k .loop .i) (k .loop .written) (k .loop .inv) (c .before .before .before .line-end .result) (c .before .before .before .line-end .ensures)
 
 read-line-requires : tie.Need-read-line-requires Inv-loop μ-loop
 read-line-requires c κs = tt
@@ -74,24 +74,24 @@ plain-requires : tie.Need-plain-requires Inv-loop μ-loop
 plain-requires c κs = tt
 
 write-answer-requires : tie.Need-write-answer-requires Inv-loop μ-loop
-write-answer-requires c κs = omega (arith, c .before .before .before .before .before .before .before .if2 .left, c .before .before .before .before .before .before .before .before .before .before .before .before .loop .inv .room)
+write-answer-requires c κs = omega (arith, c .before .before .before .before .before .before .before .if2 .left, c .before .before .before .before .before .before .before .before .before .before .before .loop .inv .room)
 
 add-line : tie.Need-add-line Inv-loop μ-loop
-add-line c = omega (arith, c .before .before .before .before .before .before .before .before .before .if3 .left, c .before .before .before .before .before .before .before .before .before .before .before .before .before .before .before .loop .inv .numbered)
+add-line c = omega (arith, c .before .before .before .before .before .before .before .before .before .if3 .left, c .before .before .before .before .before .before .before .before .before .before .before .before .before .before .loop .inv .numbered)
 
 add-i : tie.Need-add-i Inv-loop μ-loop
 add-i c =
-    let k = c .before .before .before .before .before .before .before .before .before .before .before .before .before .before .before in
-    omega (arith, end-within (k .before .before .before .args .line) (k .before .before .before .args .table) (now (k .before .before .before .args .input)) (now (k .before .before .before .args .out)) (k .loop .out) (k .loop .reply .table) (k .loop .line) (k .loop .i) (k .loop .written) (k .loop .inv) (c .before .before .before .before .before .before .before .before .before .before .before .before .line-end .result) (c .before .before .before .before .before .before .before .before .before .before .before .before .line-end .ensures), c .before .before .before .before .before .before .before .before .before .before .before .if1 .left)
+    let k = c .before .before .before .before .before .before .before .before .before .before .before .before .before .before in
+    omega (arith, end-within (k .before .before .before .args .line) (k .before .before .before .args .table) (now (k .before .before .before .args .input)) (now (k .before .before .before .args .out)) (k .loop .out) (k .loop .t) (k .loop .line) (k .loop .i) (k .loop .written) (k .loop .inv) (c .before .before .before .before .before .before .before .before .before .before .before .before .line-end .result) (c .before .before .before .before .before .before .before .before .before .before .before .before .line-end .ensures), c .before .before .before .before .before .before .before .before .before .before .before .if1 .left)
 
 loop-less : tie.Need-loop-less Inv-loop μ-loop
-loop-less c = omega (arith, c .before .before .before .before .before .before .before .before .before .before .before .before .line-end .ensures, c .before .before .before .before .before .before .before .before .before .before .before .before .before .before .loop-test .taken)
+loop-less c = omega (arith, c .before .before .before .before .before .before .before .before .before .before .before .before .line-end .ensures, c .before .before .before .before .before .before .before .before .before .before .before .before .before .loop-test .taken)
 
 loop-again : tie.Need-loop-again Inv-loop μ-loop
 loop-again c =
-    let k = c .before .before .before .before .before .before .before .before .before .before .before .before .before .before .before in
-    working-broken (k .before .before .before .args .line) (k .before .before .before .args .table) (now (k .before .before .before .args .input)) (now (k .before .before .before .args .out)) (k .loop .out) (k .loop .reply .table) (k .loop .line) (k .loop .i) (k .loop .written) (k .loop .inv) (c .before .before .before .before .before .before .before .before .before .before .before .before .line-end .result) (c .before .before .write-answer .last .0) (c .before .before .write-answer .result) (c .before .before .before .before .before .before .before .before .before .before .before .before .line-end .ensures)
-    (omega (arith, end-within (k .before .before .before .args .line) (k .before .before .before .args .table) (now (k .before .before .before .args .input)) (now (k .before .before .before .args .out)) (k .loop .out) (k .loop .reply .table) (k .loop .line) (k .loop .i) (k .loop .written) (k .loop .inv) (c .before .before .before .before .before .before .before .before .before .before .before .before .line-end .result) (c .before .before .before .before .before .before .before .before .before .before .before .before .line-end .ensures), c .before .before .before .before .before .before .before .before .before .before .before .if1 .left))
+    let k = c .before .before .before .before .before .before .before .before .before .before .before .before .before .before in
+    working-broken (k .before .before .before .args .line) (k .before .before .before .args .table) (now (k .before .before .before .args .input)) (now (k .before .before .before .args .out)) (k .loop .out) (k .loop .t) (k .loop .line) (k .loop .i) (k .loop .written) (k .loop .inv) (c .before .before .before .before .before .before .before .before .before .before .before .before .line-end .result) (c .before .before .write-answer .last .0) (c .before .before .write-answer .result) (c .before .before .before .before .before .before .before .before .before .before .before .before .line-end .ensures)
+    (omega (arith, end-within (k .before .before .before .args .line) (k .before .before .before .args .table) (now (k .before .before .before .args .input)) (now (k .before .before .before .args .out)) (k .loop .out) (k .loop .t) (k .loop .line) (k .loop .i) (k .loop .written) (k .loop .inv) (c .before .before .before .before .before .before .before .before .before .before .before .before .line-end .result) (c .before .before .before .before .before .before .before .before .before .before .before .before .line-end .ensures), c .before .before .before .before .before .before .before .before .before .before .before .if1 .left))
     (c .before .before .before .before .before .before .before .read-line .result) (c .before .before .before .before .before .before .before .read-line .ensures) (c .before .before .before .before .before .enum-told .given .1) (c .before .before .before .plain .result) (c .before .before .before .plain .ensures) (c .before .before .write-answer .ensures)
     (omega (arith, c .before .before .before .before .before .before .before .before .before .before .if2 .left, k .loop .inv .room)) (omega (arith, c .before .before .before .before .before .before .before .before .before .if3 .left, k .loop .inv .numbered))
 
@@ -102,34 +102,34 @@ show-requires : tie.Need-show-requires Inv-loop μ-loop
 show-requires c κs = tt
 
 write-answer-requires-2 : tie.Need-write-answer-requires-2 Inv-loop μ-loop
-write-answer-requires-2 c κs = omega (arith, c .before .before .before .before .before .before .before .before .before .before .if2 .left, c .before .before .before .before .before .before .before .before .before .before .before .before .before .before .before .loop .inv .room)
+write-answer-requires-2 c κs = omega (arith, c .before .before .before .before .before .before .before .before .before .before .if2 .left, c .before .before .before .before .before .before .before .before .before .before .before .before .before .before .loop .inv .room)
 
 add-line-2 : tie.Need-add-line-2 Inv-loop μ-loop
-add-line-2 c = omega (arith, c .before .before .before .before .before .before .before .before .before .before .before .before .if3 .left, c .before .before .before .before .before .before .before .before .before .before .before .before .before .before .before .before .before .before .loop .inv .numbered)
+add-line-2 c = omega (arith, c .before .before .before .before .before .before .before .before .before .before .before .before .if3 .left, c .before .before .before .before .before .before .before .before .before .before .before .before .before .before .before .before .before .loop .inv .numbered)
 
 add-i-2 : tie.Need-add-i-2 Inv-loop μ-loop
 add-i-2 c =
-    let k = c .before .before .before .before .before .before .before .before .before .before .before .before .before .before .before .before .before .before in
-    omega (arith, end-within (k .before .before .before .args .line) (k .before .before .before .args .table) (now (k .before .before .before .args .input)) (now (k .before .before .before .args .out)) (k .loop .out) (k .loop .reply .table) (k .loop .line) (k .loop .i) (k .loop .written) (k .loop .inv) (c .before .before .before .before .before .before .before .before .before .before .before .before .before .before .before .line-end .result) (c .before .before .before .before .before .before .before .before .before .before .before .before .before .before .before .line-end .ensures), c .before .before .before .before .before .before .before .before .before .before .before .before .before .before .if1 .left)
+    let k = c .before .before .before .before .before .before .before .before .before .before .before .before .before .before .before .before .before in
+    omega (arith, end-within (k .before .before .before .args .line) (k .before .before .before .args .table) (now (k .before .before .before .args .input)) (now (k .before .before .before .args .out)) (k .loop .out) (k .loop .t) (k .loop .line) (k .loop .i) (k .loop .written) (k .loop .inv) (c .before .before .before .before .before .before .before .before .before .before .before .before .before .before .before .line-end .result) (c .before .before .before .before .before .before .before .before .before .before .before .before .before .before .before .line-end .ensures), c .before .before .before .before .before .before .before .before .before .before .before .before .before .before .if1 .left)
 
 loop-less-2 : tie.Need-loop-less-2 Inv-loop μ-loop
-loop-less-2 c = omega (arith, c .before .before .before .before .before .before .before .before .before .before .before .before .before .before .before .line-end .ensures, c .before .before .before .before .before .before .before .before .before .before .before .before .before .before .before .before .before .loop-test .taken)
+loop-less-2 c = omega (arith, c .before .before .before .before .before .before .before .before .before .before .before .before .before .before .before .line-end .ensures, c .before .before .before .before .before .before .before .before .before .before .before .before .before .before .before .before .loop-test .taken)
 
 loop-again-2 : tie.Need-loop-again-2 Inv-loop μ-loop
 loop-again-2 c =
-    let k = c .before .before .before .before .before .before .before .before .before .before .before .before .before .before .before .before .before .before in
-    working-known (k .before .before .before .args .line) (k .before .before .before .args .table) (now (k .before .before .before .args .input)) (now (k .before .before .before .args .out)) (k .loop .out) (k .loop .reply .table) (k .loop .line) (k .loop .i) (k .loop .written) (k .loop .inv) (c .before .before .before .before .before .before .before .before .before .before .before .before .before .before .before .line-end .result) (c .before .before .write-answer2 .last .0) (c .before .before .write-answer2 .result) (c .before .before .before .before .before .before .before .before .before .before .before .before .before .before .before .line-end .ensures)
-    (omega (arith, end-within (k .before .before .before .args .line) (k .before .before .before .args .table) (now (k .before .before .before .args .input)) (now (k .before .before .before .args .out)) (k .loop .out) (k .loop .reply .table) (k .loop .line) (k .loop .i) (k .loop .written) (k .loop .inv) (c .before .before .before .before .before .before .before .before .before .before .before .before .before .before .before .line-end .result) (c .before .before .before .before .before .before .before .before .before .before .before .before .before .before .before .line-end .ensures), c .before .before .before .before .before .before .before .before .before .before .before .before .before .before .if1 .left))
+    let k = c .before .before .before .before .before .before .before .before .before .before .before .before .before .before .before .before .before in
+    working-known (k .before .before .before .args .line) (k .before .before .before .args .table) (now (k .before .before .before .args .input)) (now (k .before .before .before .args .out)) (k .loop .out) (k .loop .t) (k .loop .line) (k .loop .i) (k .loop .written) (k .loop .inv) (c .before .before .before .before .before .before .before .before .before .before .before .before .before .before .before .line-end .result) (c .before .before .write-answer2 .last .0) (c .before .before .write-answer2 .result) (c .before .before .before .before .before .before .before .before .before .before .before .before .before .before .before .line-end .ensures)
+    (omega (arith, end-within (k .before .before .before .args .line) (k .before .before .before .args .table) (now (k .before .before .before .args .input)) (now (k .before .before .before .args .out)) (k .loop .out) (k .loop .t) (k .loop .line) (k .loop .i) (k .loop .written) (k .loop .inv) (c .before .before .before .before .before .before .before .before .before .before .before .before .before .before .before .line-end .result) (c .before .before .before .before .before .before .before .before .before .before .before .before .before .before .before .line-end .ensures), c .before .before .before .before .before .before .before .before .before .before .before .before .before .before .if1 .left))
     (c .before .before .before .before .before .before .before .before .before .before .read-line .result) (c .before .before .before .before .before .before .before .before .before .before .read-line .ensures) (c .before .before .before .before .before .before .before .before .event .given .0 .0) (c .before .before .before .before .before .before .before .before .event .given .1) (c .before .before .before .before .before .before .apply .result) (c .before .before .before .before .before .before .apply .ensures) (c .before .before .before .show .result) (c .before .before .before .show .ensures) (c .before .before .write-answer2 .ensures)
     (omega (arith, c .before .before .before .before .before .before .before .before .before .before .before .before .before .if2 .left, k .loop .inv .room)) (omega (arith, c .before .before .before .before .before .before .before .before .before .before .before .before .if3 .left, k .loop .inv .numbered))
 
 same-length-4 : tie.Need-same-length-4 Inv-loop μ-loop
-same-length-4 c = c .before .before .loop .inv .same
+same-length-4 c = c .before .loop .inv .same
 
 returns-4 : tie.Need-returns-4 Inv-loop μ-loop
 returns-4 c =
-    let k = c .before .before in
-    working-ended (k .before .before .before .args .line) (k .before .before .before .args .table) (now (k .before .before .before .args .input)) (now (k .before .before .before .args .out)) (k .loop .out) (k .loop .reply .table) (k .loop .line) (k .loop .i) (k .loop .written) (k .loop .inv) (at-end-of-piece (k .before .before .before .args .line) (k .before .before .before .args .table) (now (k .before .before .before .args .input)) (now (k .before .before .before .args .out)) (k .loop .out) (k .loop .reply .table) (k .loop .line) (k .loop .i) (k .loop .written) (k .loop .inv) (c .before .loop-test .left))
+    let k = c .before in
+    working-ended (k .before .before .before .args .line) (k .before .before .before .args .table) (now (k .before .before .before .args .input)) (now (k .before .before .before .args .out)) (k .loop .out) (k .loop .t) (k .loop .line) (k .loop .i) (k .loop .written) (k .loop .inv) (at-end-of-piece (k .before .before .before .args .line) (k .before .before .before .args .table) (now (k .before .before .before .args .input)) (now (k .before .before .before .args .out)) (k .loop .out) (k .loop .t) (k .loop .line) (k .loop .i) (k .loop .written) (k .loop .inv) (c .loop-test .left))
 
 pub work-spec : {M : Type 1} → statement M
 work-spec =

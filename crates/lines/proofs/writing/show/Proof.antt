@@ -23,8 +23,8 @@ plain-requires-2 c κs = search needs
 enum-known-answer-2 : tie.Need-enum-known-answer-2
 enum-known-answer-2 c = search needs
 
-refusal-number-requires : tie.Need-refusal-number-requires
-refusal-number-requires c κs = search needs
+number-requires : tie.Need-number-requires
+number-requires c κs = search needs
 
 plain-requires-3 : tie.Need-plain-requires-3
 plain-requires-3 c κs = search needs
@@ -39,7 +39,7 @@ returns-3 : tie.Need-returns-3
 returns-3 c = rw (c .before .enum-told2 .given .1) (c .plain2 .ensures)
 
 returns-4 : tie.Need-returns-4
-returns-4 c = rw (c .before .before .before .answer2 .given .1) (c .plain3 .ensures ∙ ap plainly (c .before .refusal-number .ensures))
+returns-4 c = rw (c .before .before .before .answer2 .given .1) (c .plain3 .ensures ∙ ap plainly (c .before .number .ensures))
 
 pub show-spec : {M : Type 1} → statement M
 show-spec =
@@ -51,7 +51,7 @@ show-spec =
     enum-told-2
     plain-requires-2
     enum-known-answer-2
-    refusal-number-requires
+    number-requires
     plain-requires-3
     returns
     returns-2

@@ -1,68 +1,20 @@
--- `Table::fresh`: a limit outside its range is refused with the empty table of limit 1, another makes a fresh table.
-use mathlib.Core.Path.{_≡_, ap, _∙_}
+-- `Table::fresh` puts the event to the empty table with slice limit 1, which a refusal hands back.
+use mathlib.Core.Path.{_≡_}
 use borrow.Author.Needs.{needs}
-use Rattle.share.specs.Calls.{accepted, refused, freshReply}
-use Rattle.share.specs.declared.Table.{Table}
-use Rattle.share.specs.Refusals.{firstOf, freshChecks}
-use Rattle.share.specs.Verdict.{verdictOf}
-use Rattle.share.proofs.Verdicts.{verdict-refused, verdict-fine}
+use Rattle.share.specs.Calls.{freshReply, renewReply}
+use Rattle.share.specs.Runs.{step}
 use Rattle.share.proofs.Table.fresh.Statement.{statement}
 use Rattle.share.proofs.Table.fresh.Tie as tie
-
-outside-requires : tie.Need-outside-requires
-outside-requires c κs = search needs
-
-first-requires : tie.Need-first-requires
-first-requires c κs = search needs
-
-tested : (c : tie.After-first) → let a = c .before .before .args in c .first .result ≡ verdictOf (firstOf (freshChecks (a .limit)))
-unfolding freshChecks
-tested c =
-    rw
-    (c .before .outside .ensures)
-    at (c .first .ensures)
-
-enum-known-why : tie.Need-enum-known-why
-enum-known-why c = search needs
 
 empty-requires : tie.Need-empty-requires
 empty-requires c κs = search needs
 
-refused-requires : tie.Need-refused-requires
-refused-requires c κs = search needs
-
-enum-told : tie.Need-enum-told
-enum-told c = search needs
-
-empty-requires-2 : tie.Need-empty-requires-2
-empty-requires-2 c κs = search needs
-
-accepted-requires : tie.Need-accepted-requires
-accepted-requires c κs = search needs
+apply-requires : tie.Need-apply-requires
+apply-requires c κs = search needs
 
 returns : tie.Need-returns
-unfolding freshReply
-returns c =
-    let first = c .before .before .before .before .before in
-    c .refused .ensures ∙ ap (λ (t : Table). refused t (c .before .before .before .why .given .0 .0)) (c .before .empty .ensures) ∙ verdict-refused _ (first .first .result) (tested first) _ (c .before .before .before .why .given .1) _ _
-
-returns-2 : tie.Need-returns-2
-unfolding freshReply
-returns-2 c =
-    let first = c .before .before .before .before in
-    c .accepted .ensures ∙ ap accepted (c .before .empty2 .ensures) ∙ verdict-fine _ (first .first .result) (tested first) (c .before .before .enum-told .given .1) _ _
+unfolding step freshReply renewReply
+returns c = rw (c .before .empty .ensures) at (c .apply .ensures)
 
 pub fresh-spec : {M : Type 1} → statement M
-fresh-spec =
-    tie.close
-    (tie.spec
-    outside-requires
-    first-requires
-    enum-known-why
-    empty-requires
-    refused-requires
-    enum-told
-    empty-requires-2
-    accepted-requires
-    returns
-    returns-2)
+fresh-spec = tie.close (tie.spec empty-requires apply-requires returns)

@@ -1,5 +1,6 @@
 -- `Table::lag_of`: of an orderly row, a free one too, the product form is its lag.
 use mathlib.Core.Path.{_≡_, _∙_}
+use native.Mathlib.Omega.{arith}
 use mir.Syntax.{w64}
 use mir.ValLaws.{toZ-ofZ}
 use Rattle.share.proofs.Report.{lag-product}
@@ -12,10 +13,10 @@ lag-by-requires : tie.Need-lag-by-requires
 lag-by-requires c κs =
     let a = c .args in
     record {
-      weight-high = weight-small (a .row) (c .pre .1);
-      position-high = position-small (a .row) (c .pre .1);
-      total-high = total-most (a .self) (c .pre .0);
-      sum-high = sum-most (a .self) (c .pre .0);
+      weight-high = omega (arith, weight-small (a .row) (c .pre .1));
+      position-high = omega (arith, position-small (a .row) (c .pre .1));
+      total-high = omega (arith, total-most (a .self) (c .pre .0));
+      sum-high = omega (arith, sum-most (a .self) (c .pre .0));
     }
 
 returns : tie.Need-returns

@@ -16,15 +16,15 @@ use Rattle.share.proofs.Verdicts.{none-applies-to, verdict-refused, ver
 use Rattle.share.proofs.Table.lags.Statement.{statement}
 use Rattle.share.proofs.Table.lags.Tie as tie
 
-survey-requires : tie.Need-survey-requires
-survey-requires c κs = search needs
+is-sound-requires : tie.Need-is-sound-requires
+is-sound-requires c κs = search needs
 
 first-requires : tie.Need-first-requires
 first-requires c κs = search needs
 
-tested : (c : tie.After-first) → let a = c .before .before .before .args in c .first .result ≡ verdictOf (firstOf (lagChecks (a .self) (now (a .list))))
+tested : (c : tie.After-first) → let a = c .before .before .args in c .first .result ≡ verdictOf (firstOf (lagChecks (a .self) (now (a .list))))
 unfolding lagChecks unsound
-tested c = rw (c .before .before .survey .ensures .sound-told) at (c .first .ensures)
+tested c = rw (c .before .is-sound .ensures) at (c .first .ensures)
 
 enum-known-why : tie.Need-enum-known-why
 enum-known-why c = search needs
@@ -36,10 +36,10 @@ enum-told : tie.Need-enum-told
 enum-told c = search needs
 
 -- the table is sound and the list is long enough
-fine : (c : tie.After-enum-told) → let a = c .before .before .before .before .before .args in Sound (a .self) × (queues ≤ length (now (a .list)))
+fine : (c : tie.After-enum-told) → let a = c .before .before .before .before .args in Sound (a .self) × (queues ≤ length (now (a .list)))
 fine c =
     let first = c .before .before in
-    let a = first .before .before .before .args in
+    let a = first .before .before .args in
     lags-accepted (a .self) (now (a .list)) (none-applies-to (lagChecks (a .self) (now (a .list))) (first .first .result) (tested first) (c .enum-told .given .1))
 
 write-lags-requires : tie.Need-write-lags-requires
@@ -52,7 +52,7 @@ returns : tie.Need-returns
 unfolding lagReply
 returns c =
     let first = c .before .before .before .before in
-    let a = first .before .before .before .args in (
+    let a = first .before .before .args in (
       c .refused .ensures ∙ verdict-refused _ (first .first .result) (tested first) _ (c .before .before .why .given .1) _ _,
       list-refused (a .self) (now (a .list)) (first .first .result) (tested first) _ (c .before .before .why .given .1),
     )
@@ -64,7 +64,7 @@ returns-2 : tie.Need-returns-2
 unfolding lagReply
 returns-2 c =
     let first = c .before .before .before .before .before .before in
-    let a = first .before .before .before .args in
+    let a = first .before .before .args in
     let told = c .before .before .before .before .enum-told .given .1 in (
       c .reported .ensures ∙ verdict-fine _ (first .first .result) (tested first) told _ _,
       c .before .before .write-lags .ensures ∙ list-written (a .self) (now (a .list)) (first .first .result) (tested first) told,
@@ -74,7 +74,7 @@ pub lags-spec : {M : Type 1} → statement M
 lags-spec =
     tie.close
     (tie.spec
-    survey-requires
+    is-sound-requires
     first-requires
     enum-known-why
     refused-requires

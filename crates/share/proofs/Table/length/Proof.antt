@@ -1,89 +1,15 @@
--- `Table::length`: the verdict is that of the definition's checks; refused, the table goes back, and else the next length is set.
-use mathlib.Core.Path.{_≡_, ap, _∙_}
+-- `Table::length` puts a length event to the door.
 use borrow.Author.Needs.{needs}
-use Rattle.share.specs.Calls.{accepted, lengthReply}
-use Rattle.share.specs.Refusals.{firstOf, unsound, notAsking, lengthChecks}
-use Rattle.share.specs.Verdict.{verdictOf}
-use Rattle.share.proofs.Accepted.{length-accepted}
-use Rattle.share.proofs.Verdicts.{none-applies-to, verdict-refused, verdict-fine}
+use Rattle.share.specs.Runs.{step}
 use Rattle.share.proofs.Table.length.Statement.{statement}
 use Rattle.share.proofs.Table.length.Tie as tie
 
-survey-requires : tie.Need-survey-requires
-survey-requires c κs = search needs
-
-row-of-requires : tie.Need-row-of-requires
-row-of-requires c κs = search needs
-
-queue-outside-requires : tie.Need-queue-outside-requires
-queue-outside-requires c κs = search needs
-
-length-outside-requires : tie.Need-length-outside-requires
-length-outside-requires c κs = search needs
-
-is-asking-requires : tie.Need-is-asking-requires
-is-asking-requires c κs = search needs
-
-first-requires : tie.Need-first-requires
-first-requires c κs = search needs
-
-tested : (c : tie.After-first) → let a = c .before .before .before .before .before .before .before .args in c .first .result ≡ verdictOf (firstOf (lengthChecks (a .self) (a .queue) (a .length)))
-unfolding lengthChecks unsound notAsking
-tested c =
-    rw (
-      c .before .before .before .before .before .before .survey .ensures .sound-told,
-      c .before .before .before .queue-outside .ensures,
-      c .before .before .length-outside .ensures,
-      c .before .is-asking .ensures,
-      c .before .before .before .before .before .row-of .ensures,
-    )
-    at (c .first .ensures)
-
-enum-known-why : tie.Need-enum-known-why
-enum-known-why c = search needs
-
-refused-requires : tie.Need-refused-requires
-refused-requires c κs = search needs
-
-enum-told : tie.Need-enum-told
-enum-told c = search needs
-
-length-set-requires : tie.Need-length-set-requires
-length-set-requires c κs =
-    let first = c .before .before in
-    let a = first .before .before .before .before .before .before .before .args in
-    let j = length-accepted (a .self) (a .queue) (a .length) (none-applies-to (lengthChecks (a .self) (a .queue) (a .length)) (first .first .result) (tested first) (c .enum-told .given .1)) in
-    j
-
-accepted-requires : tie.Need-accepted-requires
-accepted-requires c κs = search needs
+apply-requires : tie.Need-apply-requires
+apply-requires c κs = search needs
 
 returns : tie.Need-returns
-unfolding lengthReply
-returns c =
-    let first = c .before .before .before .before in
-    c .refused .ensures ∙ verdict-refused _ (first .first .result) (tested first) _ (c .before .before .why .given .1) _ _
-
-returns-2 : tie.Need-returns-2
-unfolding lengthReply
-returns-2 c =
-    let first = c .before .before .before .before in
-    c .accepted .ensures ∙ ap accepted (c .before .length-set .ensures) ∙ verdict-fine _ (first .first .result) (tested first) (c .before .before .enum-told .given .1) _ _
+unfolding step
+returns c = c .apply .ensures
 
 pub length-spec : {M : Type 1} → statement M
-length-spec =
-    tie.close
-    (tie.spec
-    survey-requires
-    row-of-requires
-    queue-outside-requires
-    length-outside-requires
-    is-asking-requires
-    first-requires
-    enum-known-why
-    refused-requires
-    enum-told
-    length-set-requires
-    accepted-requires
-    returns
-    returns-2)
+length-spec = tie.close (tie.spec apply-requires returns)

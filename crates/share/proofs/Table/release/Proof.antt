@@ -9,18 +9,15 @@ use Rattle.share.proofs.Verdicts.{none-applies-to, verdict-refused, ver
 use Rattle.share.proofs.Table.release.Statement.{statement}
 use Rattle.share.proofs.Table.release.Tie as tie
 
-survey-requires : tie.Need-survey-requires
-survey-requires c κs = search needs
+is-sound-requires : tie.Need-is-sound-requires
+is-sound-requires c κs = search needs
 
 first-requires : tie.Need-first-requires
 first-requires c κs = search needs
 
-tested : (c : tie.After-first) → let a = c .before .before .before .args in c .first .result ≡ verdictOf (firstOf (releaseChecks (a .self)))
+tested : (c : tie.After-first) → let a = c .before .before .args in c .first .result ≡ verdictOf (firstOf (releaseChecks (a .self)))
 unfolding releaseChecks unsound
-tested c =
-    rw
-    (c .before .before .survey .ensures .sound-told)
-    at (c .first .ensures)
+tested c = rw (c .before .is-sound .ensures) at (c .first .ensures)
 
 enum-known-why : tie.Need-enum-known-why
 enum-known-why c = search needs
@@ -44,7 +41,7 @@ returns-2 : tie.Need-returns-2
 unfolding releaseReply
 returns-2 c =
     let first = c .before .before .before in
-    let t = first .before .before .before .args .self in
+    let t = first .before .before .args .self in
     let none = none-applies-to (releaseChecks t) (first .first .result) (tested first) (c .before .enum-told .given .1) in
     c .accepted .ensures ∙ ap accepted (nothing-to-free t none) ∙ verdict-fine _ (first .first .result) (tested first) (c .before .enum-told .given .1) _ _
 
@@ -52,7 +49,7 @@ pub release-spec : {M : Type 1} → statement M
 release-spec =
     tie.close
     (tie.spec
-    survey-requires
+    is-sound-requires
     first-requires
     enum-known-why
     refused-requires

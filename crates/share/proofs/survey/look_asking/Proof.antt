@@ -42,6 +42,7 @@ unfolding positionOf
 deadline-seen-requires c κs =
     let h = orderly c in (
       omega (arith, h .stands, ranged (c .before .before) .position-high),
+      omega (arith, h .stands, ranged (c .before .before) .position-high),
       h .length-high,
       c .before .before .before .before .pre .0,
       c .before .before .before .before .pre .1,

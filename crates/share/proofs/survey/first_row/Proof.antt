@@ -1,0 +1,14 @@
+-- `first_row` is the definition.
+use mathlib.Core.Path.{_≡_, refl}
+use borrow.Author.Tests.{lt-ltb, le-ltb}
+use Rattle.share.proofs.survey.first_row.Statement.{statement}
+use Rattle.share.proofs.survey.first_row.Tie as tie
+
+returns : tie.Need-returns
+returns c = rw (lt-ltb 1024 _ (c .if1 .taken)) refl
+
+returns-2 : tie.Need-returns-2
+returns-2 c = rw (le-ltb 1024 _ (c .if1 .left)) refl
+
+pub first-row-spec : {M : Type 1} → statement M
+first-row-spec = tie.close (tie.spec returns returns-2)
