@@ -55,7 +55,7 @@ pub record Working (line : ℕ) (t : Table) (input out₀ out : List ℕ) (u : T
 pub working-first : (line : ℕ) (t : Table) (input out : List ℕ) → line < 2 ^ 64 → Working line t input out out t line 0 0
 working-first line t input out h = record { within = omega arith; room = omega arith; same = refl; numbered = h; prints = λ rest. refl }
 
-module _ (line : ℕ) (t : Table) (input out₀ out : List ℕ) (u : Table) (next i written : ℕ) (w : Working line t input out₀ out u next i written) where
+module _ {line : ℕ} {t : Table} {input out₀ out : List ℕ} {u : Table} {next i written : ℕ} (w : Working line t input out₀ out u next i written) where
   module _ (e : ℕ) (o : List ℕ) (p : ℕ) (at : e ≡ i + length (before newline (drop i input))) (h : e < length input) where
     the-line : take (e - i) (drop i input) ≡ before newline (drop i input)
     the-line = let k : e - i ≡ length (before newline (drop i input)) = omega arith in rw k (before-take newline (drop i input))

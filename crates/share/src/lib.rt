@@ -223,8 +223,9 @@ impl Table {
         }
     }
 
-    // One event of a run: the door for every program and every call, and the one place where a table is changed. Its rows are walked over once, the
-    // event is judged by what was seen, and done where no refusal applies. A refused fresh keeps the present table.
+    // One event of a run: the door for every program and every call. It walks once over the rows of a copy of its own, judges the event by what it
+    // saw there, and does it on that copy where no refusal applies. Grants and returns, which an engine sees all day, are done in place: a table
+    // handed from function to function is copied each time. A refused fresh keeps the present table.
     pub fn apply(self, event: Event) -> Reply
         ensures { λ r. ⌜ r ≡ step self event ⌝ }
     {
@@ -245,8 +246,8 @@ impl Table {
             }
             i += 1;
         }
-        let out = place(holder);
-        let held = t.rows[out];
+        let holding = place(holder);
+        let held = t.rows[holding];
         let seen = t.survey(walked, held);
         let at = place(event.named());
         let row = t.rows[at];
