@@ -1,15 +1,14 @@
 -- Document 01, "Bench cases": B1 to B11 in one table, every number that it gives for them.
-use mathlib.Core.Bool.{true, false}
+use mathlib.Core.Bool.{false}
 use mathlib.Core.List.{List, [], _∷_, _++_}
 use Prim.Native.Nat.{ℕ, _-_}
 use lib.IntN.{pos}
 use Rattle.rows.specs.Numbers.{ceiling}
-use Rattle.share.specs.declared.Event.{Event}
-use Rattle.share.specs.declared.Event.the-variants.{Fresh, Join, Leave, Reweight, Length, Grant, Return}
+use Rattle.share.specs.declared.Event.the-variants.{Fresh, Join, Leave, Grant, Return}
 use Rattle.share.specs.declared.Table.{Table}
 use Rattle.share.specs.Table.{placed}
 use Rattle.share.specs.Events.{emptyTable, entering}
-use Rattle.cases.specs.Facts.{minus, Fraction, _over_, Fact, answers, grants, sums, weighs, virtual-time, not-virtual-time, lag, reports, enters-at, is-free, is-going, from-sound, only-takes-the-slice-in, Line, _then_, Case}
+use Rattle.cases.specs.Facts.{minus, _over_, answers, grants, sums, weighs, virtual-time, not-virtual-time, lag, reports, enters-at, is-free, is-going, from-sound, only-takes-the-slice-in, Line, _then_, Case}
 
 -- "It begins with the table that refusal 14 gives"
 abbrev pub first : List Line → Case

@@ -1,12 +1,12 @@
 -- The difference of two naturals, as machine code comes to it and as it fits a signed number.
-use mathlib.Core.Path.{_≡_, refl, ap, sym, _∙_}
+use mathlib.Core.Path.{_≡_, refl, ap}
 use mathlib.Core.Bool.{Bool, true, false, cond}
-use Prim.Native.Nat.{ℕ, zero, suc, _+_, _-_, _≤_}
+use Prim.Native.Nat.{ℕ, zero, suc, _-_, _≤_}
 use native.Mathlib.Omega.{arith}
 use lib.Dec.{ltb}
-use lib.IntN.{ℤ, pos, negsuc, subℕ, _-ℤ_}
+use lib.IntN.{pos, negsuc, _-ℤ_}
 use lib.Signed.{mag}
-use borrow.Author.Tests.{ltb-true, ltb-false, le-ltb}
+use borrow.Author.Tests.{le-ltb}
 use Rattle.laws.specs.Difference.{_⊖_}
 
 pub minus-pos : (a b : ℕ) → pos a -ℤ pos b ≡ a ⊖ b

@@ -6,8 +6,7 @@ use Rattle.laws.specs.Lists.{every}
 use Rattle.lines.specs.Cut.{cutAt}
 use Rattle.lines.specs.Decimal.{isDecimal, decimal}
 use Rattle.lines.specs.Grammar.{eventOf, numbers, eventIf, eventNamed, eventIn, readLine}
-use Rattle.lines.specs.declared.Line.{Line}
-use Rattle.lines.specs.declared.Line.the-variants.{Known, Broken}
+use Rattle.lines.specs.declared.Line.the-variants.{Broken}
 
 abbrev Refused : List (List ℕ) → Type 0
 Refused [] = Unit {0}

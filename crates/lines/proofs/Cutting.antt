@@ -1,9 +1,9 @@
 -- Where bytes are cut: up to the first mark stands the first part, and what follows the mark is cut by itself.
-use mathlib.Core.Path.{_≡_, refl, sym, ap, _∙_}
+use mathlib.Core.Path.{_≡_, refl}
 use mathlib.Core.Bool.{Bool, true, false}
 use mathlib.Core.List.{List, [], _∷_, _++_}
 use mathlib.Core.Logic.{⊎-elim}
-use Prim.Native.Nat.{ℕ, zero, suc, _+_, _≤_, _<_}
+use Prim.Native.Nat.{ℕ, suc, _+_, _≤_, _<_}
 use native.Mathlib.Nat.{le-of-suc-le-suc}
 use native.Mathlib.Numerals.{add-one}
 use native.Mathlib.Omega.{arith}
@@ -12,7 +12,7 @@ use lib.ListN.{length, take, drop, getD}
 use lib.Seq.{drop-cons, drop-length}
 use borrow.Author.Tests.{eqb-true, eq-eqb, ne-eqb}
 use Rattle.laws.proofs.Tests.{either}
-use Rattle.lines.specs.Cut.{part, cutAt, nextBefore, before, fieldsOf, linesOf, space, newline}
+use Rattle.lines.specs.Cut.{part, cutAt, nextBefore, before}
 
 module _ (m : ℕ) where
   -- no more bytes stand before the mark than there are

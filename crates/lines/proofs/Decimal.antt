@@ -1,17 +1,17 @@
 -- A field is a decimal exactly when it is the digits of a number below 100,000.
 use mathlib.Core.Path.{_≡_, refl, sym, ap, _∙_}
-use mathlib.Core.Bool.{Bool, true, false, cond, not, _&&_}
+use mathlib.Core.Bool.{Bool, true, false, cond, not}
 use mathlib.Core.List.{List, [], _∷_, _++_, append-assoc}
-use mathlib.Core.Option.{Option, none, some}
+use mathlib.Core.Option.{none, some}
 use mathlib.Core.Logic.{⊎-elim}
 use Prim.Native.Nat.{ℕ, zero, suc, _+_, _-_, _*_, _/_, _%_, _^_, _≤_, _<_}
-use native.Mathlib.Nat.{zero-add, add-zero, add-suc, suc-add, pow-suc, pow-le-pow-right}
+use native.Mathlib.Nat.{add-zero, add-suc, suc-add, pow-suc, pow-le-pow-right}
 use native.Mathlib.Omega.{arith}
 use lib.Dec.{leb, ltb, eqb}
-use lib.ListN.{length, length-append}
-use borrow.Author.Tests.{le-leb, leb-true, lt-ltb, le-ltb, ltb-true, ltb-false, eqb-true, eqb-false, eq-eqb, ne-eqb, not-true}
-use Rattle.laws.specs.Lists.{every, all}
-use Rattle.laws.proofs.Tests.{clash, either, le-or-lt, and-left, and-right, and-both, every-each, each-every, Each}
+use lib.ListN.{length}
+use borrow.Author.Tests.{le-leb, leb-true, lt-ltb, le-ltb, ltb-true, ltb-false, eqb-false, ne-eqb, not-true}
+use Rattle.laws.specs.Lists.{all}
+use Rattle.laws.proofs.Tests.{clash, le-or-lt, and-left, and-right, and-both, every-each, each-every, Each}
 use Rattle.lines.specs.Decimal.{digit, noLeadingZero, valueFrom, isDecimal, decimal, digitsIn, digits}
 use Rattle.lines.specs.Places.{placesIn}
 use Rattle.lines.proofs.Digits.{digits-last, last-length, places-one, places-more}

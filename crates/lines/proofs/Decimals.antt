@@ -1,10 +1,9 @@
 -- A decimal read from the left. After n digits that make v the rest of the field decides: `contd` says how, and each byte takes it one
 -- digit further or refuses the field.
-use mathlib.Core.Path.{_≡_, refl, sym, ap, _∙_}
-use mathlib.Core.Bool.{Bool, true, false, cond, not, _&&_}
-use mathlib.Core.List.{List, [], _∷_, _++_}
+use mathlib.Core.Path.{_≡_, refl, _∙_}
+use mathlib.Core.Bool.{Bool, true, false, cond, not}
+use mathlib.Core.List.{List, [], _∷_}
 use mathlib.Core.Option.{Option, none, some}
-use mathlib.Core.Logic.{⊎-elim}
 use Prim.Native.Nat.{ℕ, zero, suc, _+_, _-_, _*_, _^_, _≤_, _<_}
 use native.Mathlib.Nat.{zero-add, add-zero, add-suc, suc-add, pow-suc, pow-le-pow-right}
 use native.Mathlib.Numerals.{add-one}
@@ -12,9 +11,9 @@ use native.Mathlib.Omega.{arith}
 use lib.Dec.{leb, ltb, eqb}
 use lib.ListN.{length, drop, getD}
 use lib.Seq.{drop-cons, drop-length}
-use borrow.Author.Tests.{leb-true, le-leb, lt-leb, lt-ltb, le-ltb, ltb-true, eqb-true, eqb-false, eq-eqb, ne-eqb}
+use borrow.Author.Tests.{leb-true, le-leb, lt-leb, lt-ltb, ltb-true, eqb-true, eqb-false, eq-eqb, ne-eqb}
 use Rattle.laws.specs.Lists.{every, all}
-use Rattle.laws.proofs.Tests.{refuted, clash, either, and-left, and-right, and-both, every-each, each-every, Each}
+use Rattle.laws.proofs.Tests.{refuted, clash, and-left, and-right, and-both, every-each, each-every, Each}
 use Rattle.lines.specs.Cut.{space, before}
 use Rattle.lines.specs.Decimal.{digit, noLeadingZero, valueFrom, isDecimal, decimal}
 use Rattle.lines.specs.Reading.{fieldAs, fieldAt, finishedAs, zeroLeads}

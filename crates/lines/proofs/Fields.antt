@@ -1,25 +1,21 @@
 -- A line taken field by field from the left: what each field that the reader finds says of the whole line.
 use mathlib.Core.Path.{_≡_, refl, sym, ap, _∙_}
-use mathlib.Core.Bool.{Bool, true, false, cond}
-use mathlib.Core.List.{List, [], _∷_, _++_, append-nil}
+use mathlib.Core.Bool.{Bool, true, false}
+use mathlib.Core.List.{List, [], _∷_, append-nil}
 use mathlib.Core.Option.{Option, none, some}
-use Prim.Native.Nat.{ℕ, zero, suc, _+_, _≤_, _<_}
-use native.Mathlib.Numerals.{add-one}
-use native.Mathlib.Nat.{add-suc}
+use Prim.Native.Nat.{ℕ, suc, _+_, _≤_, _<_}
 use native.Mathlib.Omega.{arith}
-use lib.Dec.{leb, eqb}
+use lib.Dec.{eqb}
 use lib.ListN.{length, drop, getD, length-drop}
 use lib.Seq.{drop-drop}
-use borrow.Author.Tests.{le-leb, lt-leb, eqb-true, eqb-false, eq-eqb, ne-eqb}
+use borrow.Author.Tests.{le-leb, lt-leb, eqb-true, eq-eqb, ne-eqb}
 use Rattle.lines.specs.Cut.{space, part, cutAt, before, fieldsOf}
 use Rattle.lines.specs.Decimal.{decimal}
 use Rattle.lines.specs.Grammar.{eventOf, both, numbers, eventIf, eventNamed, eventIn, readLine}
 use Rattle.lines.specs.Reading.{fieldAs, fieldAt}
-use Rattle.lines.specs.declared.reading.Field.{Field}
 use Rattle.lines.specs.declared.reading.Field.the-variants.{Decimal, Nothing}
-use Rattle.lines.specs.declared.Line.{Line}
-use Rattle.lines.specs.declared.Line.the-variants.{Known, Broken}
-use Rattle.lines.proofs.Cutting.{before-length, before-all, cut-more, cut-last, cut-first}
+use Rattle.lines.specs.declared.Line.the-variants.{Broken}
+use Rattle.lines.proofs.Cutting.{before-length, cut-more, cut-last, cut-first}
 
 -- no line begins with a space
 blank-none : (ns : Option (List ℕ)) → eventIf space ns ≡ Broken

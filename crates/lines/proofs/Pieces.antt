@@ -1,28 +1,22 @@
 -- Input worked piece by piece prints what the whole input prints: a line taken from the front, an unfinished line closed by a newline at the
 -- end of input, and an overlong one cut short all leave what is printed as it is.
 use mathlib.Core.Path.{_≡_, refl, sym, ap, _∙_}
-use mathlib.Core.Bool.{Bool, true, false, cond}
-use mathlib.Core.List.{List, [], _∷_, _++_, append-assoc, append-nil}
+use mathlib.Core.Bool.{Bool, true, false}
+use mathlib.Core.List.{List, [], _∷_, _++_, append-nil}
 use mathlib.Core.Logic.{⊎-elim}
 use Prim.Native.Nat.{ℕ, zero, suc, _+_, _-_, _≤_, _<_}
-use native.Mathlib.Nat.{le-of-suc-le-suc}
-use native.Mathlib.Numerals.{add-one}
 use native.Mathlib.Omega.{arith}
 use lib.Dec.{eqb}
-use lib.ListN.{length, take, drop, getD, length-append, length-take, length-drop}
-use lib.Seq.{drop-drop, take-all, drop-cons, drop-length}
-use borrow.Author.Tests.{eqb-true}
-use Rattle.laws.proofs.Tests.{clash, le-or-lt}
+use lib.ListN.{length, take, drop, length-append, length-take}
+use lib.Seq.{take-all}
+use Rattle.laws.proofs.Tests.{le-or-lt}
 use Rattle.share.specs.declared.Table.{Table}
-use Rattle.share.specs.Events.{emptyTable}
-use Rattle.share.specs.Runs.{step}
-use Rattle.lines.specs.declared.Line.{Line}
-use Rattle.lines.specs.declared.Line.the-variants.{Known, Broken}
+use Rattle.lines.specs.declared.Line.the-variants.{Broken}
 use Rattle.lines.specs.Cut.{newline, part, cutAt, nextBefore, before, linesOf}
 use Rattle.lines.specs.Grammar.{readLine}
-use Rattle.lines.specs.Print.{header, answerLine, printed, after, answers, printsFrom, prints}
-use Rattle.lines.specs.Pieces.{Unfinished, Worked}
-use Rattle.lines.proofs.Cutting.{before-length, before-mark, before-other, cut-more}
+use Rattle.lines.specs.Print.{printed, after, answers, printsFrom, prints}
+use Rattle.lines.specs.Pieces.{Unfinished}
+use Rattle.lines.proofs.Cutting.{cut-more}
 use Rattle.lines.proofs.Fields.{overlong}
 
 module _ (line : ℕ) (t : Table) where

@@ -1,20 +1,18 @@
 -- Document 01's lines and their events, both ways: an event with numbers of up to five digits, written as a line, reads back as that event;
 -- and a line that reads as an event is the line which that event is written as. So no other bytes are an event.
-use mathlib.Core.Path.{_≡_, refl, sym, ap, _∙_}
-use mathlib.Core.Bool.{Bool, true, false, cond, not, _&&_}
-use mathlib.Core.List.{List, [], _∷_, _++_, append-assoc, append-nil, map}
+use mathlib.Core.Path.{_≡_, refl, sym, _∙_}
+use mathlib.Core.Bool.{Bool, true, false, cond, not}
+use mathlib.Core.List.{List, [], _∷_, _++_}
 use mathlib.Core.Option.{Option, none, some}
-use mathlib.Core.Logic.{⊎-elim}
-use Prim.Native.Nat.{ℕ, zero, suc, _+_, _*_, _≤_, _<_}
+use Prim.Native.Nat.{ℕ, _+_, _*_, _≤_, _<_}
 use native.Mathlib.Omega.{arith}
 use lib.Dec.{leb, eqb}
 use lib.ListN.{length, length-append}
-use borrow.Author.Tests.{le-leb, lt-leb, leb-true, eqb-true, eqb-false, ne-eqb}
+use borrow.Author.Tests.{le-leb, leb-true, eqb-true, eqb-false, ne-eqb}
 use Rattle.share.specs.declared.Event.{Event}
 use Rattle.share.specs.declared.Event.the-variants.{Fresh, Join, Leave, Reweight, Length, Grant, Return}
 use Rattle.laws.specs.Lists.{all}
-use Rattle.laws.proofs.Tests.{clash, either, le-or-lt, and-left, and-right, and-both}
-use Rattle.lines.specs.declared.Line.{Line}
+use Rattle.laws.proofs.Tests.{clash, and-left, and-right, and-both}
 use Rattle.lines.specs.declared.Line.the-variants.{Known, Broken}
 use Rattle.lines.specs.Cut.{space, part, cutAt, before, fieldsOf}
 use Rattle.lines.specs.Decimal.{digit, decimal, digits}

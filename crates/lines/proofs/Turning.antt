@@ -1,21 +1,20 @@
 -- A turn of the program: lines worked, an unfinished one moved to the front, a newline put after the last. Each leaves what is still to be
 -- printed, so turns one after the other print what the whole input prints.
-use mathlib.Core.Path.{_≡_, refl, sym, ap, _∙_}
+use mathlib.Core.Path.{_≡_, refl, sym, _∙_}
 use mathlib.Core.Bool.{true, false}
 use mathlib.Core.List.{List, [], _∷_, _++_, append-assoc, append-nil}
 use Prim.Native.Nat.{ℕ, zero, suc, _+_, _-_, _≤_, _<_}
 use native.Mathlib.Nat.{sub-zero}
 use native.Mathlib.Numerals.{add-one}
 use native.Mathlib.Omega.{arith}
-use lib.ListN.{length, take, drop, set, getD, length-append, length-take, length-drop, length-set}
-use lib.Seq.{drop-drop, drop-cons, drop-nil, take-suc-set, drop-set-lt, drop-set-add, take-nil}
+use lib.ListN.{length, take, drop, set, getD, length-take, length-drop, length-set}
+use lib.Seq.{drop-drop, drop-cons, take-suc-set, drop-set-lt, drop-set-add, take-nil}
 use Rattle.laws.proofs.Tests.{clash}
-use Rattle.share.specs.declared.Table.{Table}
 use Rattle.lines.specs.declared.Done.{Done}
 use Rattle.lines.specs.declared.State.{State}
-use Rattle.lines.specs.Cut.{newline, before, cutAt}
+use Rattle.lines.specs.Cut.{newline, cutAt}
 use Rattle.lines.specs.Print.{header, answers, printsFrom, prints}
-use Rattle.lines.specs.Pieces.{Unfinished, Worked, bytesIn, Kept, heldIn, printsOn, begun, idleAs, Waits, Turned, Closed}
+use Rattle.lines.specs.Pieces.{Unfinished, Worked, bytesIn, Kept, heldIn, printsOn, begun, idleAs, Turned, Closed}
 use Rattle.lines.proofs.Pieces.{closed, cut-short, unfinished-take}
 
 drop-take : (n m : ℕ) (l : List ℕ) → drop n (take m l) ≡ take (m - n) (drop n l)

@@ -3,7 +3,7 @@ use mathlib.Core.Path.{_≡_, refl}
 use mathlib.Core.List.{List, [], _∷_}
 use Prim.Native.Nat.{ℕ}
 use Rattle.laws.specs.Difference.{_⊖_}
-use Rattle.laws.specs.Lists.{every, all}
+use Rattle.laws.specs.Lists.{every}
 use Rattle.rows.specs.Numbers.{lengthMeant, stepOf}
 use Rattle.rows.specs.Row.{positionOf, deadlineOf, chargedTo, weightIn, momentIn}
 use Rattle.share.specs.Table.{row, trueTotal, trueSum, reached, isEmpty, placed, withSlice}

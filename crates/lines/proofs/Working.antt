@@ -1,7 +1,7 @@
 -- What holds of the loop over the lines of a piece: whatever comes after it, the piece prints what is written and then what is left of it.
-use mathlib.Core.Path.{_≡_, refl, sym, ap, _∙_}
+use mathlib.Core.Path.{_≡_, refl, sym, _∙_}
 use mathlib.Core.Bool.{true, false}
-use mathlib.Core.List.{List, [], _∷_, _++_, append-assoc}
+use mathlib.Core.List.{List, _++_, append-assoc}
 use mathlib.Core.Logic.{_⊎_}
 use Prim.Native.Nat.{ℕ, suc, _+_, _-_, _^_, _≤_, _<_}
 use native.Mathlib.Numerals.{add-one}
@@ -16,14 +16,13 @@ use Rattle.share.specs.declared.Reply.{Reply}
 use Rattle.share.specs.declared.Table.{Table}
 use Rattle.share.specs.Answers.{number}
 use Rattle.share.specs.Runs.{step}
-use Rattle.lines.specs.declared.Done.{Done}
 use Rattle.lines.specs.declared.Line.{Line}
 use Rattle.lines.specs.declared.Line.the-variants.{Known, Broken}
 use Rattle.lines.specs.declared.writing.Shown.{Shown}
 use Rattle.lines.specs.Cut.{newline, before}
 use Rattle.lines.specs.Grammar.{readLine}
 use Rattle.lines.specs.Places.{Wrote}
-use Rattle.lines.specs.Print.{answerLine, shownLine, replyLine, whoIn, sliceIn, printed, after, printsFrom}
+use Rattle.lines.specs.Print.{answerLine, shownLine, whoIn, sliceIn, printed, after, printsFrom}
 use Rattle.lines.specs.Pieces.{plainly, shownAs, Unfinished, Worked}
 use Rattle.lines.proofs.Cutting.{before-length, before-take, found-nowhere}
 use Rattle.lines.proofs.Digits.{wrote-length, wrote-take, shown-most}

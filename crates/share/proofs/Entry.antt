@@ -1,12 +1,12 @@
 -- A newcomer enters at the least whole number not below V: rounding up by W - 1 before the division. V is a mean of positions, none of which is
 -- above P, so the entry is not either.
-use mathlib.Core.Path.{_≡_, refl, ap, sym, _∙_}
-use mathlib.Core.Bool.{Bool, true, false, cond}
+use mathlib.Core.Path.{_≡_}
+use mathlib.Core.Bool.{cond}
 use mathlib.Core.Logic.{⊎-elim}
 use Prim.Native.Nat.{ℕ, _*_, _≤_, _<_}
 use native.Mathlib.Nat.{mul-le-mul-left}
 use native.Mathlib.Omega.{arith}
-use lib.ListN.{length, getD}
+use lib.ListN.{getD}
 use borrow.Author.Tests.{eq-eqb, ne-eqb}
 use Rattle.laws.proofs.Means.{round-up-not-below, round-up-least}
 use Rattle.laws.proofs.Sums.{sum-scaled}
@@ -18,7 +18,7 @@ use Rattle.rows.specs.Numbers.{ceiling}
 use Rattle.rows.specs.Row.{blank, isFree, weightIn, momentIn}
 use Rattle.share.specs.declared.Table.{Table}
 use Rattle.share.specs.Table.{row, trueTotal, trueSum, isEmpty}
-use Rattle.share.specs.Sound.{OrderlyAs, OrderlyRow, Orderly}
+use Rattle.share.specs.Sound.{OrderlyAs, Orderly}
 use Rattle.share.specs.Events.{entry}
 
 module _ (t : Table) where

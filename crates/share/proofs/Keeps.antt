@@ -1,25 +1,17 @@
 -- Soundness is kept. Putting an orderly row in place keeps a table orderly; a release only puts free rows in place and ends calm; so each event's
 -- part is that the row it places is orderly.
-use mathlib.Core.Path.{_≡_, refl, ap, sym, subst, subst⁻¹, _∙_}
-use mathlib.Core.Bool.{Bool, true, false, cond, _||_}
-use mathlib.Core.Logic.{_≢_, _⊎_, ⊎-elim}
-use mathlib.Core.List.{List}
-use Prim.Native.Nat.{ℕ, zero, suc, _+_, _-_, _*_, _≤_, _<_}
+use mathlib.Core.Path.{_≡_, refl, subst, subst⁻¹, _∙_}
+use mathlib.Core.Bool.{false}
+use Prim.Native.Nat.{ℕ, zero, _-_, _<_}
 use native.Mathlib.Decide.{ℕ-discrete}
 use native.Mathlib.Omega.{arith}
-use lib.ListN.{length}
-use Rattle.laws.proofs.Tests.{clash, le-or-lt}
-use Rattle.rows.specs.declared.Request.{Request}
 use Rattle.rows.specs.declared.Row.{Row}
-use Rattle.rows.specs.declared.State.{State}
-use Rattle.rows.specs.declared.State.the-variants.{Free, Going, Asking}
-use Rattle.rows.specs.Numbers.{queues, ceiling, maxLength, lengthMeant, stepOf}
-use Rattle.rows.specs.Row.{blank, isFree, isGoing, isAsking, positionOf, deadlineOf, chargedTo}
+use Rattle.rows.specs.Numbers.{queues}
+use Rattle.rows.specs.Row.{blank}
 use Rattle.share.specs.declared.Table.{Table}
-use Rattle.share.specs.Table.{row, trueTotal, trueSum, AtMostV, reached, placed, withSlice}
-use Rattle.share.specs.Sound.{InRange, OrderlyRequest, OrderlyAs, OrderlyRow, OrderlySlice, Orderly, Ready, Calm, Sound}
+use Rattle.share.specs.Table.{row, placed}
+use Rattle.share.specs.Sound.{OrderlyRow, OrderlySlice, Orderly, Calm, Sound}
 use Rattle.share.specs.Release.{freed, Frees, done, one, released}
-use Rattle.share.specs.Events.{entry, opened, entering, leaving, charged}
 use Rattle.share.proofs.Placed.{TrueSums, placed-length, placed-same, placed-other, placed-true}
 use Rattle.share.proofs.Release.{released-frees, ready-inside}
 

@@ -1,8 +1,8 @@
 -- One row looked at: each way out of the code's tests, as the definition has it, and products that fit.
-use mathlib.Core.Path.{_≡_, refl, sym}
-use mathlib.Core.Bool.{Bool, true, false, cond}
+use mathlib.Core.Path.{_≡_, refl}
+use mathlib.Core.Bool.{true, false}
 use mathlib.Core.List.{[], _∷_}
-use Prim.Native.Nat.{ℕ, _+_, _-_, _*_, _≤_, _<_}
+use Prim.Native.Nat.{ℕ, _-_, _*_, _≤_, _<_}
 use native.Mathlib.Nat.{mul-le-mul}
 use native.Mathlib.Omega.{arith}
 use lib.Dec.{leb, ltb, eqb}
@@ -12,11 +12,9 @@ use Rattle.laws.proofs.Tests.{each-every, first-fails, rest-fails}
 use Rattle.rows.specs.declared.Request.{Request}
 use Rattle.rows.specs.declared.Row.{Row}
 use Rattle.rows.specs.declared.State.{State}
-use Rattle.rows.specs.declared.State.the-variants.{Free, Going, Asking}
 use Rattle.rows.specs.Numbers.{ceiling, maxWeight}
 use Rattle.rows.specs.Row.{deadlineOf}
-use Rattle.share.specs.declared.survey.Look.{Look}
-use Rattle.share.specs.Sound.{InRange, inRange, orderlyRequest, orderlyAs}
+use Rattle.share.specs.Sound.{InRange, inRange, orderlyRequest}
 use Rattle.share.specs.Survey.{never, beyond, faulty, lookFree, lookGoing, deadlineSeen, lookAsking, lookAs, lookOf}
 
 pub moment-fits : {w p : ℕ} → InRange w p → w * p ≤ maxWeight * ceiling

@@ -1,9 +1,9 @@
 -- Some queue can always be served. V is a mean of the positions, so not every present row stands above it; going rows all do; so an asking row does
 -- not, and its request opened no later than it stands.
-use mathlib.Core.Path.{_≡_, refl, ap, sym, subst, _∙_}
-use mathlib.Core.Bool.{Bool, true, false, cond}
-use mathlib.Core.Option.{Option, none, some}
-use Prim.Native.Nat.{ℕ, suc, _+_, _*_, _≤_, _<_}
+use mathlib.Core.Path.{_≡_, refl, ap}
+use mathlib.Core.Bool.{true, false, cond}
+use mathlib.Core.Option.{none}
+use Prim.Native.Nat.{ℕ, suc, _*_, _≤_, _<_}
 use native.Mathlib.Nat.{mul-le-mul-left, mul-le-mul-right}
 use native.Mathlib.Omega.{arith}
 use lib.ListN.{getD}
@@ -12,11 +12,10 @@ use Rattle.laws.proofs.Tests.{refuted}
 use Rattle.rows.specs.declared.Row.{Row}
 use Rattle.rows.specs.declared.State.{State}
 use Rattle.rows.specs.declared.State.the-variants.{Free, Going, Asking}
-use Rattle.rows.specs.Numbers.{stepOf}
 use Rattle.rows.specs.Row.{blank, isFree, isGoing, weightIn, momentIn, positionOf}
 use Rattle.share.specs.declared.Table.{Table}
 use Rattle.share.specs.Table.{row, trueTotal, trueSum, reached}
-use Rattle.share.specs.Sound.{OrderlyAs, Orderly, Ready, Calm, Sound}
+use Rattle.share.specs.Sound.{OrderlyAs, Sound}
 use Rattle.share.specs.Choice.{eligibleAs, eligible, choice}
 use Rattle.share.proofs.Choice.{choice-none}
 use Rattle.share.proofs.Virtual.{reached-yes, reached-no}

@@ -1,15 +1,14 @@
 -- The parts of events on one row: each way out of the code's tests, as the definition has it.
-use mathlib.Core.Path.{_≡_, refl, sym}
-use mathlib.Core.Bool.{Bool, true, false, cond, _||_}
+use mathlib.Core.Path.{_≡_, refl}
+use mathlib.Core.Bool.{Bool, true, false, _||_}
 use Prim.Native.Nat.{ℕ, _+_, _≤_, _<_}
-use lib.Dec.{leb}
 use borrow.Author.Tests.{le-leb, lt-leb}
 use Rattle.rows.specs.declared.Request.{Request}
 use Rattle.rows.specs.declared.Row.{Row}
 use Rattle.rows.specs.declared.State.{State}
 use Rattle.rows.specs.declared.State.the-variants.{Free, Going, Asking}
 use Rattle.rows.specs.Row.{chargedTo}
-use Rattle.share.specs.Events.{opened, nextSet, rowNextSet, servedTo, served, charged}
+use Rattle.share.specs.Events.{opened, rowNextSet, servedTo, served, charged}
 
 same-row : {r s : Row} → r .weight ≡ s .weight → r .position ≡ s .position → r .state ≡ s .state → r ≡ s
 same-row a b c = λ i. record { weight = a i; position = b i; state = c i }

@@ -1,19 +1,18 @@
 -- Release has no order. A ready row stays ready when another ready row is freed, since V only rises, and freeing two rows commutes; so any
 -- ready row may be the first, and every way of freeing ends in the same table. `released` is such a way: each turn takes one going row away.
-use mathlib.Core.Path.{_≡_, refl, ap, sym, subst, _∙_}
+use mathlib.Core.Path.{_≡_, refl, ap, sym, subst}
 use mathlib.Core.Bool.{Bool, true, false, cond}
-use mathlib.Core.List.{List}
 use mathlib.Core.Logic.{_≢_, _⊎_, ⊎-elim}
 use mathlib.Core.Option.{Option, none, some}
 use Prim.Native.Nat.{ℕ, zero, suc, _+_, _-_, _*_, _≤_, _<_}
 use native.Mathlib.Decide.{ℕ-discrete}
-use native.Mathlib.Nat.{add-zero, zero-add, sub-right-comm}
+use native.Mathlib.Nat.{zero-add}
 use native.Mathlib.Omega.{arith}
-use lib.ListN.{length, getD, set}
+use lib.ListN.{length, getD}
 use lib.Seq.{set-comm}
 use borrow.Author.Tests.{leb-true, le-leb}
 use Rattle.laws.specs.Lists.{sumOf, firstFrom}
-use Rattle.laws.proofs.First.{Passes, first-none, first-some}
+use Rattle.laws.proofs.First.{first-none, first-some}
 use Rattle.laws.proofs.Means.{still-reached}
 use Rattle.laws.proofs.Sums.{sum-set, sum-bound}
 use Rattle.laws.proofs.Tests.{clash, le-or-lt, and-left, and-right, and-both}
@@ -23,7 +22,7 @@ use Rattle.rows.specs.declared.State.the-variants.{Free, Going, Asking}
 use Rattle.rows.specs.Row.{blank, isFree, isGoing, weightIn, momentIn}
 use Rattle.share.specs.declared.Table.{Table}
 use Rattle.share.specs.Asks.{readyBy}
-use Rattle.share.specs.Table.{row, AtMostV, placed}
+use Rattle.share.specs.Table.{row, placed}
 use Rattle.share.specs.Sound.{Ready, ready, Calm}
 use Rattle.share.specs.Release.{freed, Frees, done, one, freeing, released}
 use Rattle.share.proofs.Placed.{placed-other, placed-length, placed-same}

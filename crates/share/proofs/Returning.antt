@@ -1,19 +1,19 @@
 -- The holder's row when its slice comes back: its request can be charged with the ticks used, and the row that comes of it can be placed.
-use mathlib.Core.Path.{_≡_, refl, ap, subst, sym, _∙_}
-use mathlib.Core.Bool.{Bool, true, false}
-use Prim.Native.Nat.{ℕ, _+_, _-_, _≤_, _<_}
+use mathlib.Core.Path.{_≡_, refl, ap, subst}
+use mathlib.Core.Bool.{Bool, false}
+use Prim.Native.Nat.{ℕ, _+_, _-_, _≤_}
 use native.Mathlib.Omega.{arith}
 use Rattle.rows.specs.declared.Row.{Row}
 use Rattle.rows.specs.declared.State.{State}
-use Rattle.rows.specs.declared.State.the-variants.{Free, Going, Asking}
+use Rattle.rows.specs.declared.State.the-variants.{Asking}
 use lib.ListN.{set}
-use Rattle.rows.specs.Row.{isGoing, isAsking, weightIn, momentIn}
+use Rattle.rows.specs.Row.{isGoing, weightIn, momentIn}
 use Rattle.share.specs.declared.Table.{Table}
 use Rattle.share.specs.Asks.{servedAs, Placing, Ahead, Charging, Returns}
-use Rattle.share.specs.Events.{served, charged}
+use Rattle.share.specs.Events.{charged}
 use Rattle.share.specs.Sound.{OrderlyAs, sliceFor}
 use Rattle.share.specs.Table.{row, placed, withSlice}
-use Rattle.share.proofs.Kept.{taken-in, holding, slice-within, charge-within}
+use Rattle.share.proofs.Kept.{taken-in, holding, charge-within}
 use Rattle.share.proofs.Rows.{charged-orderly}
 use Rattle.share.proofs.Shares.{position-small, orderly-weight}
 

@@ -1,18 +1,17 @@
 -- The rows that events put in place are orderly: a newcomer's, a leaver's, one with another next length, and one that was charged.
-use mathlib.Core.Path.{_≡_, refl, ap, sym, subst, _∙_}
+use mathlib.Core.Path.{_≡_, refl, subst}
 use mathlib.Core.Bool.{Bool, true, false, cond, _||_}
-use mathlib.Core.Logic.{_⊎_, ⊎-elim}
-use Prim.Native.Nat.{ℕ, zero, suc, _+_, _-_, _*_, _≤_, _<_}
+use Prim.Native.Nat.{ℕ, zero, suc, _+_, _-_, _≤_, _<_}
 use native.Mathlib.Nat.{mul-le-mul-right}
 use native.Mathlib.Omega.{arith}
 use lib.Dec.{leb}
 use borrow.Author.Tests.{ne-eqb, leb-false}
-use Rattle.laws.proofs.Tests.{clash, le-or-lt, either}
+use Rattle.laws.proofs.Tests.{clash}
 use Rattle.rows.specs.declared.Request.{Request}
 use Rattle.rows.specs.declared.Row.{Row}
 use Rattle.rows.specs.declared.State.{State}
 use Rattle.rows.specs.declared.State.the-variants.{Free, Going, Asking}
-use Rattle.rows.specs.Numbers.{ceiling, maxWeight, maxLength, lengthMeant, stepOf}
+use Rattle.rows.specs.Numbers.{ceiling, maxLength, lengthMeant, stepOf}
 use Rattle.rows.specs.Row.{blank, isAsking, positionOf, deadlineOf, chargedTo}
 use Rattle.share.specs.declared.Table.{Table}
 use Rattle.share.specs.Table.{reached}

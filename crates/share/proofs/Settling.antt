@@ -12,7 +12,7 @@ use Rattle.rows.specs.Row.{blank, isGoing}
 use Rattle.share.specs.declared.Table.{Table}
 use Rattle.share.specs.Asks.{Placing, Ahead, Settling, Leaves}
 use Rattle.share.specs.Release.{freed, Frees, done, one}
-use Rattle.share.specs.Sound.{Ready, Calm}
+use Rattle.share.specs.Sound.{Calm}
 use Rattle.share.specs.Survey.{beyond}
 use Rattle.share.specs.Table.{row, AtMostV, placed}
 use Rattle.share.specs.Events.{leaving, left}

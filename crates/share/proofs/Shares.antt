@@ -1,6 +1,6 @@
 -- An orderly row's share of W and A is its weight and its weight x position, a free one's being zero; and one row's share for another's fits.
 use mathlib.Core.Path.{_≡_, refl, sym}
-use mathlib.Core.Bool.{Bool, true, false, cond}
+use mathlib.Core.Bool.{cond}
 use Prim.Native.Nat.{ℕ, _*_, _≤_, _<_}
 use native.Mathlib.Nat.{mul-le-mul, mul-le-mul-left}
 use native.Mathlib.Omega.{arith}
@@ -8,7 +8,7 @@ use lib.ListN.{length}
 use Rattle.rows.specs.declared.Row.{Row}
 use Rattle.rows.specs.declared.State.{State}
 use Rattle.rows.specs.declared.State.the-variants.{Free, Going, Asking}
-use Rattle.rows.specs.Numbers.{queues, maxWeight, ceiling}
+use Rattle.rows.specs.Numbers.{maxWeight, ceiling}
 use Rattle.rows.specs.Row.{isFree, weightIn, momentIn}
 use Rattle.share.specs.declared.Table.{Table}
 use Rattle.share.specs.Asks.{Placing, Exchanging}

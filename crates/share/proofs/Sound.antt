@@ -1,13 +1,11 @@
 -- Soundness is decided by its test: for each notion of specs/Sound a law from the test to the record and one back.
 use mathlib.Core.Path.{_≡_, refl, ap, subst⁻¹}
-use mathlib.Core.Bool.{Bool, true, false, not, _&&_}
+use mathlib.Core.Bool.{Bool, true, false, not}
 use mathlib.Core.Logic.{⊎-elim}
 use Prim.Native.Nat.{ℕ, _≤_, _<_}
 use native.Mathlib.Omega.{arith}
-use lib.Dec.{leb, ltb, eqb}
-use lib.ListN.{length, getD, List·getD-eq-default}
+use lib.ListN.{length, List·getD-eq-default}
 use borrow.Author.Tests.{leb-true, ltb-true, eqb-true, le-leb, lt-ltb, eq-eqb, not-true}
-use Rattle.laws.specs.Lists.{all}
 use Rattle.laws.proofs.Tests.{clash, refuted, le-or-lt, every-each, each-every, all-at, at-all}
 use Rattle.rows.specs.declared.Request.{Request}
 use Rattle.rows.specs.declared.Row.{Row}
@@ -15,7 +13,7 @@ use Rattle.rows.specs.declared.State.{State}
 use Rattle.rows.specs.declared.State.the-variants.{Free, Going, Asking}
 use Rattle.rows.specs.Row.{blank, isGoing}
 use Rattle.share.specs.declared.Table.{Table}
-use Rattle.share.specs.Table.{row, reached}
+use Rattle.share.specs.Table.{row}
 use Rattle.share.specs.Sound.{InRange, inRange, OrderlyRequest, orderlyRequest, OrderlyAs, orderlyAs, OrderlyRow, orderlyRow, OrderlyHolder, orderlyHolder, HeldBy, heldBy, OrderlySlice, orderlySlice, Orderly, orderly, Ready, ready, Calm, calm, Sound, sound}
 use Rattle.share.proofs.Virtual.{reached-yes, yes-reached}
 

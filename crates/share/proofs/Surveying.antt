@@ -2,10 +2,10 @@
 -- and of a sound table that is not empty the best row passed is the one that a grant names.
 use mathlib.Core.Path.{_≡_, refl, ap, sym, subst, _∙_}
 use mathlib.Core.Bool.{Bool, true, false, cond}
-use mathlib.Core.List.{List, [], _∷_}
+use mathlib.Core.List.{List, []}
 use mathlib.Core.Logic.{_⊎_, ⊎-elim}
-use mathlib.Core.Option.{Option, none, some}
-use Prim.Native.Nat.{ℕ, suc, _+_, _-_, _*_, _≤_, _<_, min}
+use mathlib.Core.Option.{none, some}
+use Prim.Native.Nat.{ℕ, suc, _-_, _*_, _≤_, _<_, min}
 use native.Mathlib.Omega.{arith}
 use lib.Dec.{ltb}
 use lib.ListN.{length, getD, drop, drop-of-length-le}
@@ -22,11 +22,11 @@ use Rattle.share.specs.declared.survey.Seen.{Seen}
 use Rattle.share.specs.declared.survey.Survey.{Survey}
 use Rattle.share.specs.declared.Table.{Table}
 use Rattle.share.specs.Table.{row, trueTotal, trueSum}
-use Rattle.share.specs.Sound.{OrderlyAs, OrderlyRow, orderlySlice, Orderly, Ready, Calm, Sound, sound, sliceFor}
+use Rattle.share.specs.Sound.{OrderlyAs, OrderlyRow, orderlySlice, Orderly, Sound, sound, sliceFor}
 use Rattle.share.specs.Choice.{choice, deadline, chooseFrom}
 use Rattle.share.specs.Events.{sliceAs, chosenOr0, chosen, sliceGiven}
 use Rattle.share.specs.declared.survey.Look.{Look}
-use Rattle.share.specs.Survey.{never, beyond, firstRow, lookOf, Room, seenNext, Whole, Place, Held, Told, Surveyed, Ended}
+use Rattle.share.specs.Survey.{never, firstRow, lookOf, Room, seenNext, Whole, Place, Surveyed, Ended}
 use Rattle.share.proofs.Mean.{some-eligible}
 use Rattle.share.proofs.Release.{ready-inside}
 use Rattle.share.proofs.Sound.{row-past, every-row, orderly-slice, slice-orderly, sound-says, says-sound}
@@ -67,9 +67,6 @@ unfolding sliceFor
 slice-left limit Free = omega arith
 slice-left limit Going = omega arith
 slice-left limit (Asking q) = refl
-
-pub too-heavy : (t : Table) → 1024 < t .total → Sound t → ⊥
-too-heavy t h is = omega (arith, total-most t (is .orderly-table))
 
 -- a walk that met a fault walks no sound table
 pub fault-unsound : (t : Table) (i : ℕ) (seen : Seen) → SoFar t i seen → 0 < seen .faults → Sound t → ⊥

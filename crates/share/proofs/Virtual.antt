@@ -1,7 +1,7 @@
 -- Virtual time by cross products: the test whether V has reached a position says just that, and so does the sign of a row's lag.
-use mathlib.Core.Path.{_≡_, refl}
-use mathlib.Core.Bool.{Bool, true, false}
-use Prim.Native.Nat.{ℕ, _*_, _≤_, _<_}
+use mathlib.Core.Path.{_≡_}
+use mathlib.Core.Bool.{true, false}
+use Prim.Native.Nat.{ℕ, _*_, _<_}
 use borrow.Author.Tests.{leb-true, leb-false, le-leb, lt-leb}
 use Rattle.share.specs.declared.Table.{Table}
 use Rattle.share.specs.Table.{AtMostV, reached}

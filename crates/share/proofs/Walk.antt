@@ -1,32 +1,32 @@
 -- The walk over the rows. With no fault so far, what it carries is the part of W and A that is done, the best of the rows passed, and a position that
 -- no going row passed stands before; with a fault, some row is not fine. One row more keeps that, and at the end it is the survey's word.
-use mathlib.Core.Path.{_≡_, refl, ap, sym, subst, subst⁻¹, _∙_}
+use mathlib.Core.Path.{_≡_, refl, ap, sym, subst⁻¹, _∙_}
 use mathlib.Core.Bool.{Bool, true, false, cond, _&&_}
 use mathlib.Core.List.{List, [], _∷_}
 use mathlib.Core.Logic.{_⊎_, ⊎-elim}
 use mathlib.Core.Option.{Option, none, some}
-use Prim.Native.Nat.{ℕ, zero, suc, _+_, _-_, _*_, _≤_, _<_, min}
+use Prim.Native.Nat.{ℕ, suc, _+_, _-_, _*_, _≤_, _<_, min}
 use native.Mathlib.Omega.{arith}
-use lib.Dec.{leb, ltb, eqb}
-use lib.ListN.{length, getD, drop}
+use lib.Dec.{ltb}
+use lib.ListN.{length, drop}
 use lib.Seq.{drop-cons}
-use borrow.Author.Tests.{leb-true, leb-false, le-leb, lt-leb, ltb-true, ltb-false, lt-ltb, le-ltb, eqb-true}
+use borrow.Author.Tests.{ltb-true, lt-ltb, le-ltb}
 use Rattle.laws.specs.Lists.{every, sumOf}
-use Rattle.laws.proofs.Tests.{clash, refuted, every-each, each-every, either, le-or-lt}
+use Rattle.laws.proofs.Tests.{clash, every-each, each-every, either, le-or-lt}
 use Rattle.rows.specs.declared.Request.{Request}
 use Rattle.rows.specs.declared.Row.{Row}
 use Rattle.rows.specs.declared.State.{State}
 use Rattle.rows.specs.declared.State.the-variants.{Free, Going, Asking}
-use Rattle.rows.specs.Numbers.{ceiling, maxWeight, maxLength, unit, stepOf}
+use Rattle.rows.specs.Numbers.{ceiling, maxWeight}
 use Rattle.rows.specs.Row.{blank, isFree, isGoing, weightIn, momentIn, positionOf, deadlineOf}
 use Rattle.rows.proofs.Steps.{travel-most}
 use Rattle.share.specs.declared.survey.Look.{Look}
 use Rattle.share.specs.declared.survey.Seen.{Seen}
 use Rattle.share.specs.declared.Table.{Table}
 use Rattle.share.specs.Table.{row, trueTotal, trueSum, reached}
-use Rattle.share.specs.Sound.{InRange, OrderlyRequest, OrderlyAs, orderlyAs, OrderlyRow}
+use Rattle.share.specs.Sound.{InRange, OrderlyRequest, OrderlyAs, orderlyAs}
 use Rattle.share.specs.Choice.{eligibleAs, eligible, deadlineAs, deadline, precedes, better, chooseFrom, choice}
-use Rattle.share.specs.Survey.{never, beyond, faulty, lookFree, lookGoing, deadlineSeen, lookAsking, lookAs, lookOf, Room, seenNext}
+use Rattle.share.specs.Survey.{never, beyond, faulty, lookFree, lookGoing, lookAsking, lookAs, lookOf, Room, seenNext}
 use Rattle.share.proofs.Look.{moment-fits, seen-reached, seen-never}
 use Rattle.share.proofs.Sound.{in-range, orderly-as, as-orderly}
 use Rattle.share.proofs.Virtual.{reached-yes, reached-no}

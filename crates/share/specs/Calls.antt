@@ -1,15 +1,13 @@
 -- What each call answers, refused ones too: the contracts of the public calls say that the code's result is this and nothing else.
-use mathlib.Core.Bool.{Bool, true}
+use mathlib.Core.Bool.{Bool}
 use mathlib.Core.List.{List}
 use mathlib.Core.Option.{Option, none, some}
 use Prim.Native.Nat.{ℕ}
 use lib.IntN.{ℤ}
-use Rattle.share.specs.declared.Answer.{Answer}
 use Rattle.share.specs.declared.Answer.the-variants.{Accepted, Granted, Reported, Refused}
 use Rattle.share.specs.declared.Refusal.{Refusal}
 use Rattle.share.specs.declared.Reply.{Reply}
 use Rattle.share.specs.declared.Table.{Table}
-use Rattle.share.specs.Table.{withSlice}
 use Rattle.share.specs.Lag.{lagUnit, lagsInto}
 use Rattle.share.specs.Release.{released}
 use Rattle.share.specs.Events.{emptyTable, joined, left, reweighted, lengthSet, granted, chosen, sliceGiven, returned}
@@ -52,9 +50,6 @@ reweightReply t queue weight length = call (reweightChecks t queue weight length
 
 unfoldable pub lengthReply : Table → ℕ → ℕ → Reply
 lengthReply t queue length = call (lengthChecks t queue length) t (accepted (lengthSet t queue length))
-
-abbrev pub grantedReply : Table → ℕ → ℕ → Reply
-grantedReply t queue slice = record { answer = Granted queue slice; table = withSlice t true queue slice }
 
 unfoldable pub grantReply : Table → Reply
 grantReply t = call (grantChecks t) t (record { answer = Granted (chosen t) (sliceGiven t); table = granted t })

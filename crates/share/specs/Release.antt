@@ -1,5 +1,5 @@
 -- Document 01, "Release": the rule, which has no order in it, and a function that computes where every order ends.
-use mathlib.Core.Option.{Option, none, some}
+use mathlib.Core.Option.{none, some}
 use Prim.Native.Nat.{ℕ, zero, suc}
 use lib.ListN.{length}
 use Rattle.laws.specs.Lists.{firstFrom}

@@ -1,6 +1,5 @@
 -- One step by an event, and a run of events.
 use mathlib.Core.List.{List, [], _∷_}
-use Prim.Native.Nat.{ℕ}
 use Rattle.share.specs.declared.Event.{Event}
 use Rattle.share.specs.declared.Event.the-variants.{Fresh, Join, Leave, Reweight, Length, Grant, Return}
 use Rattle.share.specs.declared.Reply.{Reply}

@@ -1,5 +1,5 @@
 -- `advance` writes what the turn says was written, which lies within the buffer.
-use mathlib.Core.Path.{_≡_, sym}
+use mathlib.Core.Path.{sym}
 use lib.Seq.{length-take-le}
 use borrow.Author.Needs.{needs}
 use Rattle.bandtrace.proofs.advance.Statement.{statement}

@@ -1,5 +1,4 @@
 -- `begin` is the empty table of limit 1 and nothing else.
-use mathlib.Core.Path.{_≡_}
 use borrow.Author.Needs.{needs}
 use Rattle.lines.proofs.begin.Statement.{statement}
 use Rattle.lines.proofs.begin.Tie as tie

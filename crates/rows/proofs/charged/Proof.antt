@@ -1,5 +1,4 @@
 -- `charged` is the definition's sum, which fits: no call charges more ticks than the longest request has.
-use mathlib.Core.Path.{_≡_}
 use native.Mathlib.Omega.{arith}
 use borrow.Author.Needs.{needs}
 use Rattle.rows.specs.Row.{chargedTo}

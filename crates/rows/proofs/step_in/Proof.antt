@@ -1,5 +1,5 @@
 -- `step_in` is the table's entry: each weight in range stands one place before its number, any other has no step.
-use mathlib.Core.Path.{_≡_, sym}
+use mathlib.Core.Path.{sym}
 use borrow.Author.Needs.{needs}
 use Rattle.rows.proofs.Steps.{step-below, step-past, step-entry}
 use Rattle.rows.proofs.step_in.Statement.{statement}

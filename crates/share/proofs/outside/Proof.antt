@@ -1,5 +1,4 @@
 -- `outside` is the definition's two tests, the first of which may decide alone.
-use mathlib.Core.Path.{_≡_}
 use borrow.Author.Tests.{lt-ltb, le-ltb}
 use Rattle.share.specs.Refusals as checks
 use Rattle.share.proofs.outside.Statement.{statement}

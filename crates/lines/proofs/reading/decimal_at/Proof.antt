@@ -1,10 +1,9 @@
 -- `decimal_at` reads the field that begins at a place. The invariant is `Reached`: the digits so far are few and make a small number, and
 -- the field's answer is what the rest of it decides. The measure is what is left of the line.
-use mathlib.Core.Path.{_≡_, sym, _∙_}
+use mathlib.Core.Path.{sym, _∙_}
 use Prim.Native.Nat.{_-_}
 use lib.ListN.{length}
 use native.Mathlib.Omega.{arith}
-use borrow.Author.Needs.{needs}
 use Rattle.lines.proofs.Decimals.{Reached, reached-first, reached-next, reached-other, reached-sixth, reached-zero, at-space, at-end, under-digits, over-digits, five}
 use denote.Ref.{now}
 use Rattle.lines.proofs.reading.decimal_at.Statement.{statement}

@@ -1,5 +1,4 @@
 -- `finished` tells a field of no digits by its ends.
-use mathlib.Core.Path.{_≡_}
 use borrow.Author.Tests.{eq-eqb, ne-eqb}
 use Rattle.lines.specs.Reading.{finishedAs}
 use Rattle.lines.proofs.reading.finished.Statement.{statement}

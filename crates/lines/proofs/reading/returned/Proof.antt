@@ -2,8 +2,7 @@
 use mathlib.Core.Path.{_≡_}
 use Prim.Native.Nat.{ℕ, _<_}
 use native.Mathlib.Omega.{arith}
-use borrow.Author.Tests.{eq-eqb, ne-eqb, lt-leb}
-use Rattle.lines.specs.Grammar.{returnOf}
+use borrow.Author.Tests.{lt-leb}
 use Rattle.lines.proofs.reading.returned.Statement.{statement}
 use Rattle.lines.proofs.reading.returned.Tie as tie
 

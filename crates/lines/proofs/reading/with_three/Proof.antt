@@ -1,5 +1,4 @@
 -- `with_three` is the letter test of a line of three numbers.
-use mathlib.Core.Path.{_≡_}
 use borrow.Author.Tests.{eq-eqb, ne-eqb}
 use Rattle.lines.specs.Grammar.{eventOf}
 use borrow.Author.Needs.{needs}

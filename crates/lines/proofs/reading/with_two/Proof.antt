@@ -1,5 +1,4 @@
 -- `with_two` is the letter test of a line of two numbers.
-use mathlib.Core.Path.{_≡_}
 use borrow.Author.Tests.{eq-eqb, ne-eqb}
 use Rattle.lines.specs.Grammar.{eventOf}
 use Rattle.lines.proofs.reading.with_two.Statement.{statement}

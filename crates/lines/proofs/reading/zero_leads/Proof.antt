@@ -1,6 +1,5 @@
 -- `zero_leads` is the definition's two tests, the first of which may decide alone.
-use mathlib.Core.Path.{_≡_}
-use borrow.Author.Tests.{eq-eqb, ne-eqb, lt-ltb, le-ltb}
+use borrow.Author.Tests.{lt-ltb, le-ltb}
 use Rattle.lines.specs.Reading.{zeroLeads}
 use Rattle.lines.proofs.reading.zero_leads.Statement.{statement}
 use Rattle.lines.proofs.reading.zero_leads.Tie as tie

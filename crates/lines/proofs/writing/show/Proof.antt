@@ -1,5 +1,5 @@
 -- `show` goes by the answer's cases, as the definition does.
-use mathlib.Core.Path.{_≡_, ap, _∙_}
+use mathlib.Core.Path.{ap, _∙_}
 use Rattle.lines.specs.Pieces.{plainly}
 use borrow.Author.Needs.{needs}
 use Rattle.lines.proofs.writing.show.Statement.{statement}

@@ -1,6 +1,4 @@
 -- `Request::deadline` is the definition's sum, which fits: a request within its ranges moves a queue by at most 10,000 units.
-use mathlib.Core.Path.{_≡_}
-use Prim.Native.Nat.{ℕ, _*_}
 use native.Mathlib.Omega.{arith}
 use borrow.Author.Needs.{needs}
 use Rattle.rows.specs.Row.{deadlineOf}

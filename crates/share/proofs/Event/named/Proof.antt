@@ -1,5 +1,5 @@
 -- `Event::named` is the definition, kind by kind.
-use mathlib.Core.Path.{_≡_, ap, sym}
+use mathlib.Core.Path.{ap, sym}
 use borrow.Author.Needs.{needs}
 use Rattle.share.specs.Asks.{named}
 use Rattle.share.proofs.Event.named.Statement.{statement}

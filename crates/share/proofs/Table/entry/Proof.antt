@@ -1,5 +1,4 @@
 -- `Table::entry` rounds A / W up, and is 0 where the table is empty.
-use mathlib.Core.Path.{_≡_}
 use native.Mathlib.Omega.{arith}
 use borrow.Author.Needs.{needs}
 use borrow.Author.Tests.{eq-eqb, ne-eqb}

@@ -1,8 +1,7 @@
 -- `first_ready`: the rows passed were not ready, and past the last there is none.
 use mathlib.Core.Path.{_≡_, sym, subst, _∙_}
-use mathlib.Core.Bool.{true}
 use mathlib.Core.Logic.{⊎-elim}
-use Prim.Native.Nat.{ℕ, suc, _-_, _≤_, _<_}
+use Prim.Native.Nat.{ℕ, _-_, _≤_, _<_}
 use native.Mathlib.Omega.{arith}
 use borrow.Author.Needs.{needs}
 use Rattle.laws.proofs.Tests.{clash, le-or-lt}

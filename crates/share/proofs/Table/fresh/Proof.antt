@@ -1,5 +1,4 @@
 -- `Table::fresh` puts the event to the empty table with slice limit 1, which a refusal hands back.
-use mathlib.Core.Path.{_≡_}
 use borrow.Author.Needs.{needs}
 use Rattle.share.specs.Calls.{freshReply, renewReply}
 use Rattle.share.specs.Runs.{step}

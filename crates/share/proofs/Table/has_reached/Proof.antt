@@ -1,7 +1,6 @@
 -- `has_reached` is the cross product, which fits.
 use mathlib.Core.Path.{refl}
 use native.Mathlib.Omega.{arith}
-use borrow.Author.Needs.{needs}
 use Rattle.share.specs.Table.{reached}
 use Rattle.share.proofs.Look.{cross-fits}
 use Rattle.share.proofs.Table.has_reached.Statement.{statement}

@@ -1,5 +1,5 @@
 -- `holder_orderly` goes by the row's state; an asking row that is orderly has a request that can be worked with.
-use mathlib.Core.Path.{_≡_, _∙_, sym, ap, subst}
+use mathlib.Core.Path.{_∙_, sym, ap, subst}
 use native.Mathlib.Omega.{arith}
 use borrow.Author.Needs.{needs}
 use Rattle.rows.specs.declared.State.{State}

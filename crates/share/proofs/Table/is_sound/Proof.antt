@@ -1,5 +1,5 @@
 -- `Table::is_sound` asks for a leave that is refused in any case.
-use mathlib.Core.Path.{_≡_, ap, _∙_}
+use mathlib.Core.Path.{ap, _∙_}
 use borrow.Author.Needs.{needs}
 use Rattle.share.specs.Answers.{number}
 use Rattle.share.specs.declared.Reply.{Reply}

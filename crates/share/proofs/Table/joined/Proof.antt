@@ -1,6 +1,5 @@
 -- `Table::joined`: the newcomer's row is orderly, so it can be placed and the table settled.
-use mathlib.Core.Path.{_≡_, refl}
-use native.Mathlib.Omega.{arith}
+use mathlib.Core.Path.{refl}
 use borrow.Author.Needs.{needs}
 use Rattle.laws.proofs.Tests.{clash}
 use Rattle.rows.specs.declared.State.the-variants.{Asking}

@@ -1,7 +1,6 @@
 -- `lag_below` says something of a sound table alone.
-use mathlib.Core.Path.{_≡_, refl, ap}
+use mathlib.Core.Path.{ap}
 use mathlib.Core.Bool.{not}
-use borrow.Author.Needs.{needs}
 use Rattle.laws.proofs.Tests.{clash}
 use Rattle.share.proofs.Table.lag_below.Statement.{statement}
 use Rattle.share.proofs.Table.lag_below.Tie as tie

@@ -1,5 +1,5 @@
 -- `Table::lag_of`: of an orderly row, a free one too, the product form is its lag.
-use mathlib.Core.Path.{_≡_, _∙_}
+use mathlib.Core.Path.{_∙_}
 use native.Mathlib.Omega.{arith}
 use mir.Syntax.{w64}
 use mir.ValLaws.{toZ-ofZ}

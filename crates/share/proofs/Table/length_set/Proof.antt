@@ -1,6 +1,4 @@
 -- `Table::length_set`: the row with another next length is orderly, so it can be placed.
-use mathlib.Core.Path.{_≡_}
-use native.Mathlib.Omega.{arith}
 use borrow.Author.Needs.{needs}
 use Rattle.share.specs.Events.{rowNextSet, lengthSet}
 use Rattle.share.specs.Table.{row}

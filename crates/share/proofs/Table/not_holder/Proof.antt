@@ -1,5 +1,4 @@
 -- `not_holder`: no slice is out, or another queue's number holds it.
-use mathlib.Core.Path.{_≡_, refl}
 use Rattle.share.specs.Refusals.{notHolder}
 use Rattle.share.proofs.Table.not_holder.Statement.{statement}
 use Rattle.share.proofs.Table.not_holder.Tie as tie

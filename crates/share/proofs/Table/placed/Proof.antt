@@ -1,6 +1,4 @@
 -- `Table::placed` is the definition: the row set, and each sum with one share for another.
-use mathlib.Core.Path.{_≡_, sym}
-use native.Mathlib.Omega.{arith}
 use borrow.Author.Needs.{needs}
 use Rattle.share.specs.Table.{row, placed}
 use Rattle.share.proofs.Shares.{orderly-weight, exchange-weights, exchange-moments}

@@ -1,7 +1,5 @@
 -- `released`: each turn frees a ready row, and the way that is left still ends in `released self`. The going rows get fewer.
-use mathlib.Core.Path.{_≡_, refl, sym, _∙_}
-use mathlib.Core.Bool.{false}
-use Prim.Native.Nat.{ℕ, _≤_, _<_}
+use mathlib.Core.Path.{_≡_, refl, _∙_}
 use native.Mathlib.Omega.{arith}
 use borrow.Author.Needs.{needs}
 use Rattle.share.specs.Asks.{Releasing, FirstReady}

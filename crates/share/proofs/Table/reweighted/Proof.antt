@@ -1,7 +1,4 @@
 -- `Table::reweighted`: the queue left is free again, so it joins; the release freed rows and moved none.
-use mathlib.Core.Path.{_≡_}
-use borrow.Author.Needs.{needs}
-use Rattle.share.specs.Asks.{Ahead}
 use Rattle.share.specs.Events.{left, reweighted}
 use Rattle.share.proofs.Kept.{rejoins}
 use Rattle.share.proofs.Settling.{left-ahead}

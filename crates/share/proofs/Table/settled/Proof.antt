@@ -1,10 +1,7 @@
 -- `settled`: no going row stands before `going`, so where V has not reached that, none is ready and the release is done.
-use mathlib.Core.Path.{_≡_}
-use native.Mathlib.Nat.{mul-le-mul-right}
 use native.Mathlib.Omega.{arith}
 use borrow.Author.Needs.{needs}
 use Rattle.share.specs.Release.{done}
-use Rattle.share.specs.Sound.{Ready}
 use Rattle.share.specs.Table.{row}
 use Rattle.share.proofs.Release.{frees-released}
 use Rattle.share.proofs.Settling.{settling-calm, settling-fits}

@@ -1,5 +1,5 @@
 -- `slice_orderly`: a holder past the last row holds nothing; with no slice out both numbers are zero.
-use mathlib.Core.Path.{_≡_, _∙_}
+use mathlib.Core.Path.{_∙_}
 use native.Mathlib.Omega.{arith}
 use borrow.Author.Needs.{needs}
 use Rattle.share.proofs.Slice.{held-none, held-some, none-holder, none-ticks}

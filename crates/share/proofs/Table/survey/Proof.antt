@@ -1,5 +1,5 @@
 -- `Table::survey`: a table that did not pass the walk whole is not sound; of one that did, the slice decides, and the walk tells the rest.
-use mathlib.Core.Path.{_≡_, refl}
+use mathlib.Core.Path.{refl}
 use borrow.Author.Needs.{needs}
 use borrow.Author.Tests.{not-true, not-false}
 use Rattle.laws.proofs.Tests.{clash}

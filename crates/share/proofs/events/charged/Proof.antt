@@ -1,9 +1,8 @@
 -- `charged` goes by the row's state; the position comes from `rows::charged`.
-use mathlib.Core.Path.{_≡_, sym, ap}
+use mathlib.Core.Path.{ap}
 use native.Mathlib.Omega.{arith}
-use Prim.Native.Nat.{ℕ, _+_}
 use borrow.Author.Needs.{needs}
-use Rattle.rows.specs.declared.State.the-variants.{Free, Going, Asking}
+use Rattle.rows.specs.declared.State.the-variants.{Free, Going}
 use Rattle.share.specs.Asks.{servedAs}
 use Rattle.share.proofs.Parts.{charged-as}
 use Rattle.share.proofs.events.charged.Statement.{statement}

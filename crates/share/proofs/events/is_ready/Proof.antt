@@ -1,5 +1,4 @@
 -- `is_ready` goes by the row's state.
-use mathlib.Core.Path.{_≡_}
 use native.Mathlib.Omega.{arith}
 use borrow.Author.Needs.{needs}
 use Rattle.share.specs.Asks.{readyBy}

@@ -1,5 +1,4 @@
 -- `length_meant` is the definition by its one test.
-use mathlib.Core.Path.{_≡_}
 use borrow.Author.Tests.{eq-eqb, ne-eqb}
 use Rattle.rows.specs.Numbers.{lengthMeant}
 use Rattle.share.proofs.events.length_meant.Statement.{statement}

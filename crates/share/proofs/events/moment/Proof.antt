@@ -1,7 +1,6 @@
 -- `moment`: of an orderly row, a free one too, the product is its part in A.
 use mathlib.Core.Path.{sym}
 use native.Mathlib.Omega.{arith}
-use borrow.Author.Needs.{needs}
 use Rattle.share.proofs.Shares.{orderly-moment, moment-small}
 use Rattle.share.proofs.events.moment.Statement.{statement}
 use Rattle.share.proofs.events.moment.Tie as tie

@@ -1,5 +1,4 @@
 -- `next_set` goes by the row's state; only an asking row has a next length.
-use mathlib.Core.Path.{_≡_}
 use borrow.Author.Needs.{needs}
 use Rattle.share.proofs.Parts.{next-free, next-going, next-asking}
 use Rattle.share.proofs.events.next_set.Statement.{statement}

@@ -1,5 +1,5 @@
 -- `served`: ended early, or used up, the next request opens; else this one goes on.
-use mathlib.Core.Path.{_≡_, _∙_}
+use mathlib.Core.Path.{_∙_}
 use borrow.Author.Needs.{needs}
 use Rattle.share.proofs.Parts.{served-early, served-up, served-on}
 use Rattle.share.proofs.events.served.Statement.{statement}

@@ -1,8 +1,6 @@
 -- `deadline_seen`: the deadline where V has reached the position given, else one that never comes.
-use mathlib.Core.Path.{_≡_}
-use Prim.Native.Nat.{ℕ, _*_, _≤_}
+use Prim.Native.Nat.{_*_, _≤_}
 use native.Mathlib.Omega.{arith}
-use borrow.Author.Needs.{needs}
 use Rattle.rows.specs.Numbers.{maxLength, unit}
 use Rattle.rows.specs.Row.{deadlineOf}
 use Rattle.rows.proofs.Steps.{travel-most}

@@ -1,5 +1,5 @@
 -- `first_row` is the definition.
-use mathlib.Core.Path.{_≡_, refl}
+use mathlib.Core.Path.{refl}
 use borrow.Author.Tests.{lt-ltb, le-ltb}
 use Rattle.share.proofs.survey.first_row.Statement.{statement}
 use Rattle.share.proofs.survey.first_row.Tie as tie

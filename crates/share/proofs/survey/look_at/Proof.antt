@@ -1,7 +1,7 @@
 -- `look_at` goes by the row's state.
-use mathlib.Core.Path.{_≡_, _∙_}
+use mathlib.Core.Path.{_∙_}
 use borrow.Author.Needs.{needs}
-use Rattle.rows.specs.declared.State.the-variants.{Free, Going, Asking}
+use Rattle.rows.specs.declared.State.the-variants.{Free, Going}
 use Rattle.share.proofs.Look.{look-as}
 use Rattle.share.proofs.survey.look_at.Statement.{statement}
 use Rattle.share.proofs.survey.look_at.Tie as tie

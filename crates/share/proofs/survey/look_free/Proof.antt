@@ -1,5 +1,4 @@
 -- `look_free`: either number above zero is a fault.
-use borrow.Author.Needs.{needs}
 use Rattle.share.proofs.Look.{free-weight, free-position, free-fine}
 use Rattle.share.proofs.survey.look_free.Statement.{statement}
 use Rattle.share.proofs.survey.look_free.Tie as tie

@@ -1,5 +1,4 @@
 -- `seen_next` is the definition, its one choice made by the code's test.
-use mathlib.Core.Path.{_≡_}
 use borrow.Author.Needs.{needs}
 use borrow.Author.Tests.{lt-ltb, le-ltb}
 use Rattle.share.specs.Survey.{seenNext}

@@ -1,5 +1,4 @@
 -- `Reasons::first`: the tests before were false, so the list's first checks fall away; the one that was true is the first that applies.
-use borrow.Author.Needs.{needs}
 use Rattle.share.proofs.refuse.Reasons.first.Statement.{statement}
 use Rattle.share.proofs.refuse.Reasons.first.Tie as tie
 
