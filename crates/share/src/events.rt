@@ -1,4 +1,5 @@
-// What an accepted event does to a sound table. Nothing is refused here: each function asks for what the refusals have settled.
+// What an accepted event does to a sound table; a grant and a return are done in `apply` itself. Nothing is refused here: each function asks for what
+// the refusals have settled.
 ghost use mathlib.Core.Path.{_≡_};
 ghost use Rattle.rows.specs.Numbers.{lengthMeant};
 ghost use Prim.Native.Nat.{_+_, _-_, _^_, _<_};

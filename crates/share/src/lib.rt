@@ -249,6 +249,7 @@ impl Table {
         let holding = place(holder);
         let held = t.rows[holding];
         let seen = t.survey(walked, held);
+        // The row that the event names.
         let at = place(event.named());
         let row = t.rows[at];
         let mut answer = Answer::Accepted;
@@ -294,6 +295,7 @@ impl Table {
                         used,
                         early,
                     } => {
+                        // The weight stays, and so does W; A follows the row.
                         let going = seen.going;
                         let next = charged(row, used, early);
                         t.rows[at] = next;

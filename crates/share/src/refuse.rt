@@ -1,6 +1,5 @@
 // The order of refusals, once for all calls: the lowest number that applies answers.
 ghost use mathlib.Core.Path.{_≡_};
-ghost use Rattle.rows.specs.Numbers.{queues};
 ghost use Rattle.rows.specs.Row as rows;
 ghost use Rattle.share.specs.Answers.{refusalNumber};
 ghost use Rattle.share.specs.Asks as asks;
@@ -15,7 +14,7 @@ use crate::survey::Survey;
 use rows::Row;
 use rows::State;
 
-// Which refusals apply. A call sets those that concern it.
+// Which refusals apply. Each call sets those that concern it.
 pub struct Reasons {
     pub unsound: bool,
     pub queue_outside: bool,
