@@ -137,7 +137,7 @@ impl Table {
     }
 
     // The row of a queue number; past the last there is none.
-    pub(crate) fn row_of(self, queue: u64) -> Row
+    fn row_of(self, queue: u64) -> Row
         ensures { λ r. ⌜ r ≡ table.row self queue ⌝ }
     {
         if Table::QUEUES <= queue {

@@ -355,7 +355,7 @@ impl Table {
 
 impl Answer {
     // 0 where nothing was refused, or else the refusal's number.
-    pub fn number(self) -> u64
+    fn number(self) -> u64
         ensures { λ r. ⌜ r ≡ number self ⌝ }
     {
         match self {

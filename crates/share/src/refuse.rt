@@ -1,4 +1,4 @@
-// The order of refusals, once for all calls: the lowest number that applies answers.
+// What each event is refused for; and once for all calls the order: the lowest number that applies answers.
 ghost use mathlib.Core.Path.{_≡_};
 ghost use Rattle.rows.specs.Row as rows;
 ghost use Rattle.share.specs.Answers.{refusalNumber};

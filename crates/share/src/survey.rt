@@ -148,7 +148,7 @@ fn look_going(weight: u64, position: u64, total: u64, sum: u64) -> Look
     }
 }
 
-// The deadline of a request that may be served, V having reached the position from which it may.
+// The deadline of a request, once V has reached `from`, the position at which it may be served. The caller says which that is: the opening.
 fn deadline_seen(q: Request, from: u64, step: u64, weight: u64, total: u64, sum: u64) -> u64
     requires { ⌜ (from ≤ ceiling) × (q .opening ≤ ceiling) × (q .length ≤ maxLength) × (step ≡ stepOf weight) × (total ≤ 1024) ⌝ }
     ensures { λ r. ⌜ r ≡ told.deadlineSeen total sum weight from q ⌝ }

@@ -18,7 +18,7 @@ module _ (c : tie.Else4) where
   line = now (c .before .before .before .before .before .before .before .args .s)
 
   short : length line ≤ 40
-  short = c .before .before .before .before .before .if1 .left
+  short = omega (arith, c .before .before .before .before .before .if1 .left)
 
   two : 2 ≤ length line
   two = omega (arith, c .before .before .before .before .if2 .left, c .before .before .if3 .left)
@@ -98,7 +98,7 @@ shared-slice-read-if4 : tie.Need-shared-slice-read-if4
 shared-slice-read-if4 c = search needs
 
 returns-4 : tie.Need-returns-4
-returns-4 c = sym (long-name _ (c .before .before .before .before .before .if1 .left) (omega (arith, c .before .before .before .before .if2 .left, c .before .before .if3 .left)) (c .if4 .taken))
+returns-4 c = sym (long-name _ (omega (arith, c .before .before .before .before .before .if1 .left)) (omega (arith, c .before .before .before .before .if2 .left, c .before .before .if3 .left)) (c .if4 .taken))
 
 decimal-at-requires : tie.Need-decimal-at-requires
 decimal-at-requires c κs = search needs
