@@ -14,7 +14,7 @@ use Rattle.lines.specs.declared.Done.{Done}
 use Rattle.lines.specs.declared.State.{State}
 use Rattle.lines.specs.Cut.{newline, cutAt}
 use Rattle.lines.specs.Print.{header, answers, printsFrom, prints}
-use Rattle.lines.specs.Pieces.{Unfinished, Worked, bytesIn, Kept, heldIn, printsOn, begun, idleAs, Turned, Closed}
+use Rattle.lines.specs.Pieces.{Unfinished, Worked, bytesIn, MovedToFront, heldIn, printsOn, begun, idleAs, Turned, Closed}
 use Rattle.lines.proofs.Pieces.{closed, cut-short, unfinished-take}
 
 drop-take : (n m : ℕ) (l : List ℕ) → drop n (take m l) ≡ take (m - n) (drop n l)
@@ -59,11 +59,11 @@ module _ (buf₀ : List ℕ) (from have : ℕ) (buf : List ℕ) (i j : ℕ) (w :
             rw (next, same-rest, append-assoc) (rw (room, first) at (w .makes));
       }
 
-  pub keeping-last : 41 - i ≡ 0 → Kept buf₀ from have buf i
+  pub keeping-last : 41 - i ≡ 0 → MovedToFront buf₀ from have buf i
   keeping-last e =
       record { few = w .few; within = omega (arith, w .behind, w .upto, w .inside); front = sym (append-nil (take i buf)) ∙ rw e at (w .makes) }
 
-  pub keeping-all : have ≤ j → Kept buf₀ from have buf i
+  pub keeping-all : have ≤ j → MovedToFront buf₀ from have buf i
   keeping-all h =
       let e : have - j ≡ 0 = omega arith in
       record {
@@ -88,7 +88,7 @@ module _ (s : State) (entry out : List ℕ) (d : Done) (w : Worked (s .line) (s 
         stopped = λ a b m. w .stopped e;
       }
 
-  pub turned-ends : (exit : List ℕ) (k : ℕ) → d .ends ≡ true → Kept entry (s .from + d .read) (s .have) exit k
+  pub turned-ends : (exit : List ℕ) (k : ℕ) → d .ends ≡ true → MovedToFront entry (s .from + d .read) (s .have) exit k
       → Turned s entry exit out (record { table = d .table; line = d .line; from = 0; have = k; more = false; written = d .written })
   turned-ends exit k e p =
       let left : Unfinished (bytesIn entry (s .from + d .read) (s .have)) = rw bytes-after at (w .ended e) in

@@ -46,7 +46,7 @@ abbrev pub bytesIn : List ℕ → ℕ → ℕ → List ℕ
 bytesIn buf from to = take (to - from) (drop from buf)
 
 -- "a line of at most 40 bytes": of an unfinished line 41 bytes say as much as all of it
-pub record Kept (entry : List ℕ) (from have : ℕ) (exit : List ℕ) (r : ℕ) : Type 0 where
+pub record MovedToFront (entry : List ℕ) (from have : ℕ) (exit : List ℕ) (r : ℕ) : Type 0 where
   pub few : r ≤ 41
   pub within : r ≤ length exit
   pub front : take r exit ≡ take 41 (bytesIn entry from have)

@@ -10,7 +10,7 @@ ghost use mathlib.Core.Path.{_≡_};
 ghost use Prim.Native.Nat.{_+_, _≤_};
 ghost use lib.ListN.{length, drop};
 ghost use Rattle.lines.specs.Cut.{newline, before};
-ghost use Rattle.lines.specs.Pieces.{Worked, Kept, begun, idleAs, grownBy, Turned, Closed};
+ghost use Rattle.lines.specs.Pieces.{Worked, MovedToFront, begun, idleAs, grownBy, Turned, Closed};
 ghost use Rattle.lines.specs.Print.{header as headerBytes};
 use share::Event;
 use share::Table;
@@ -281,7 +281,7 @@ fn line_end(s: &[u8], from: usize) -> usize
 // Moves an unfinished line to the front of the buffer, and answers how many bytes of it are kept.
 fn keep(buf: &mut [u8], from: usize, have: usize) -> usize
     requires { ⌜ (from ≤ have) × (have ≤ length (now buf)) ⌝ }
-    ensures { λ r. ⌜ Kept (now (buf .entry)) from have (now (buf .exit)) r ⌝ }
+    ensures { λ r. ⌜ MovedToFront (now (buf .entry)) from have (now (buf .exit)) r ⌝ }
 {
     let mut i = 0;
     let mut j = from;
