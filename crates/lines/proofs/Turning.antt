@@ -38,7 +38,7 @@ pub record Keeping (buf₀ : List ℕ) (from have : ℕ) (buf : List ℕ) (i j :
 pub keeping-first : (buf : List ℕ) (from have : ℕ) → from ≤ have → have ≤ length buf → Keeping buf from have buf 0 from
 keeping-first buf from have h k = record { few = omega arith; behind = omega arith; upto = h; inside = k; same = refl; makes = refl }
 
-module _ (buf₀ : List ℕ) (from have : ℕ) (buf : List ℕ) (i j : ℕ) (w : Keeping buf₀ from have buf i j) where
+module _ {buf₀ : List ℕ} {from have : ℕ} {buf : List ℕ} {i j : ℕ} (w : Keeping buf₀ from have buf i j) where
   pub keeping-next : j < have → (i ≡ 41 → ⊥) → Keeping buf₀ from have (set buf i (getD buf j 0)) (i + 1) (j + 1)
   keeping-next h n =
       record {
@@ -77,7 +77,7 @@ pub turned-idle : (s : State) (buf out : List ℕ) → (s .from ≤ s .have → 
 turned-idle s buf out n =
     record { room = omega arith; prints = λ rest. refl; waits = λ e. absurd (clash refl e); stopped = λ a b e. absurd (n a b) }
 
-module _ (s : State) (entry out : List ℕ) (d : Done) (w : Worked (s .line) (s .table) (heldIn s entry) out d) where
+module _ (s : State) (entry : List ℕ) {out : List ℕ} {d : Done} (w : Worked (s .line) (s .table) (heldIn s entry) out d) where
   pub turned-more : d .ends ≡ false → Turned s entry entry out
       (record { table = d .table; line = d .line; from = s .from + d .read; have = s .have; more = true; written = d .written })
   turned-more e =
@@ -88,9 +88,9 @@ module _ (s : State) (entry out : List ℕ) (d : Done) (w : Worked (s .line) (s 
         stopped = λ a b m. w .stopped e;
       }
 
-  pub turned-ends : (exit : List ℕ) (k : ℕ) → d .ends ≡ true → MovedToFront entry (s .from + d .read) (s .have) exit k
+  pub turned-ends : {exit : List ℕ} {k : ℕ} → d .ends ≡ true → MovedToFront entry (s .from + d .read) (s .have) exit k
       → Turned s entry exit out (record { table = d .table; line = d .line; from = 0; have = k; more = false; written = d .written })
-  turned-ends exit k e p =
+  turned-ends {exit} {k} e p =
       let left : Unfinished (bytesIn entry (s .from + d .read) (s .have)) = rw bytes-after at (w .ended e) in
       let front : take (k - 0) exit ≡ take 41 (bytesIn entry (s .from + d .read) (s .have)) = rw sub-zero (p .front) in
       record {

@@ -1,5 +1,5 @@
 -- What holds of the loop over the lines of a piece: whatever comes after it, the piece prints what is written and then what is left of it.
-use mathlib.Core.Path.{_≡_, refl, sym, _∙_}
+use mathlib.Core.Path.{_≡_, refl, _∙_}
 use mathlib.Core.Bool.{true, false}
 use mathlib.Core.List.{List, _++_, append-assoc}
 use mathlib.Core.Logic.{_⊎_}
@@ -23,7 +23,7 @@ use Rattle.lines.specs.Cut.{newline, before}
 use Rattle.lines.specs.Grammar.{readLine}
 use Rattle.lines.specs.Places.{Wrote}
 use Rattle.lines.specs.Print.{answerLine, shownLine, whoIn, sliceIn, printed, after, printsFrom}
-use Rattle.lines.specs.Pieces.{plainly, shownAs, Unfinished, Worked}
+use Rattle.lines.specs.Pieces.{plainly, shownAs, Unfinished, Worked, bytesIn}
 use Rattle.lines.proofs.Cutting.{before-length, before-take, found-nowhere}
 use Rattle.lines.proofs.Digits.{wrote-length, wrote-take, shown-most}
 use Rattle.lines.proofs.Pieces.{first-line}
@@ -44,6 +44,10 @@ broken-line : (line : ℕ) (t : Table) → shownLine line (plainly 15) (t .sum) 
 unfolding printed shownLine
 broken-line line t = refl
 
+printed-most : (line : ℕ) (t : Table) (l : Line) → length (printed line t l) ≤ 126
+printed-most line t (Known event) = rw (← known-line line t event) (shown-most line (shownAs (step t event .answer)) (step t event .table .sum) (step t event .table .total))
+printed-most line t Broken = rw (← broken-line line t) (shown-most line (plainly 15) (t .sum) (t .total))
+
 pub record Working (line : ℕ) (t : Table) (input out₀ out : List ℕ) (u : Table) (next i written : ℕ) : Type 0 where
   pub within : i ≤ length input
   pub room : written ≤ length out
@@ -54,48 +58,53 @@ pub record Working (line : ℕ) (t : Table) (input out₀ out : List ℕ) (u : T
 pub working-first : (line : ℕ) (t : Table) (input out : List ℕ) → line < 2 ^ 64 → Working line t input out out t line 0 0
 working-first line t input out h = record { within = omega arith; room = omega arith; same = refl; numbered = h; prints = λ rest. refl }
 
+-- what holds besides where the next line is whole: it ends at e, its answer has room, and there is a number for the line after it
+pub record AtLine (line : ℕ) (t : Table) (input out₀ out : List ℕ) (u : Table) (next i written e : ℕ) : Type 0 where
+  pub working : Working line t input out₀ out u next i written
+  pub ends : e ≡ i + length (before newline (drop i input))
+  pub inside : e < length input
+  pub has-room : written + 126 ≤ length out
+  pub has-number : next + 1 < 2 ^ 64
+
+module _ {line : ℕ} {t : Table} {input out₀ out : List ℕ} {u : Table} {next i written e : ℕ} (h : AtLine line t input out₀ out u next i written e) where
+  the-line : bytesIn input i e ≡ before newline (drop i input)
+  the-line = let k : e - i ≡ length (before newline (drop i input)) = omega (arith, h .ends) in rw k (before-take newline (drop i input))
+
+  -- one line more is answered: what it prints stands in the buffer, and the table is the one after it
+  module _ {l : Line} (read : readLine (bytesIn input i e) ≡ l) {v : Table} (moved : v ≡ after u l) {o : List ℕ} {p : ℕ} (x : Wrote out written (printed next u l) o p) where
+    fits : p ≤ length out
+    fits = omega (arith, h .has-room, x .place, printed-most next u l)
+
+    prints-next : (rest : List ℕ) → take written out ++ printsFrom next u (drop i input ++ rest) ≡ take p o ++ printsFrom (next + 1) v (drop (e + 1) input ++ rest)
+    prints-next rest =
+        let inner : length (before newline (drop i input)) < length (drop i input) = omega (arith, h .ends, h .inside, length-drop i input) in
+        let past : i + suc (length (before newline (drop i input))) ≡ e + 1 = omega (arith, h .ends) in
+        rw (first-line next u (drop i input) rest inner, drop-drop, past, wrote-take x fits, moved, rw the-line at read, append-assoc, add-one next)
+
+    next-turn : Working line t input out₀ o v (next + 1) (e + 1) p
+    next-turn =
+        record {
+          within = omega (arith, h .inside);
+          room = omega (arith, wrote-length x, fits);
+          same = wrote-length x ∙ h .working .same;
+          numbered = h .has-number;
+          prints = λ rest. h .working .prints rest ∙ prints-next rest;
+        }
+
+  pub working-known : {event : Event} → readLine (bytesIn input i e) ≡ Known event → {reply : Reply} → reply ≡ step u event
+      → {a : Shown} → a ≡ shownAs (reply .answer) → {o : List ℕ} {p : ℕ} → Wrote out written (shownLine next a (reply .table .sum) (reply .table .total)) o p
+      → Working line t input out₀ o (reply .table) (next + 1) (e + 1) p
+  unfolding after
+  working-known known is shows x = next-turn known (rw is) (rw (shows, is, known-line) at x)
+
+  pub working-broken : readLine (bytesIn input i e) ≡ Broken → {a : Shown} → a ≡ plainly 15
+      → {o : List ℕ} {p : ℕ} → Wrote out written (shownLine next a (u .sum) (u .total)) o p → Working line t input out₀ o u (next + 1) (e + 1) p
+  unfolding after
+  working-broken broken shows x = next-turn broken refl (rw (shows, broken-line) at x)
+
 module _ {line : ℕ} {t : Table} {input out₀ out : List ℕ} {u : Table} {next i written : ℕ} (w : Working line t input out₀ out u next i written) where
-  module _ (e : ℕ) (o : List ℕ) (p : ℕ) (at : e ≡ i + length (before newline (drop i input))) (h : e < length input) where
-    the-line : take (e - i) (drop i input) ≡ before newline (drop i input)
-    the-line = let k : e - i ≡ length (before newline (drop i input)) = omega arith in rw k (before-take newline (drop i input))
-
-    -- one line more is answered: what it prints stands in the buffer, and the table is the one after it
-    module _ (l : Line) (read : l ≡ readLine (take (e - i) (drop i input))) (v : Table) (moved : v ≡ after u l) (a : Shown) (sum total : ℕ)
-        (bytes : shownLine next a sum total ≡ printed next u l) (x : Wrote out written (shownLine next a sum total) o p) (r : written + 126 ≤ length out) where
-      fits : p ≤ length out
-      fits = omega (arith, x .place, shown-most next a sum total)
-
-      prints-next : (rest : List ℕ) → take written out ++ printsFrom next u (drop i input ++ rest) ≡ take p o ++ printsFrom (next + 1) v (drop (e + 1) input ++ rest)
-      prints-next rest =
-          let inner : length (before newline (drop i input)) < length (drop i input) = omega (arith, length-drop i input) in
-          let past : i + suc (length (before newline (drop i input))) ≡ e + 1 = omega arith in
-          rw (first-line next u (drop i input) rest inner, drop-drop, past, wrote-take x fits, bytes, moved, rw the-line at read, append-assoc, add-one next)
-
-      next-turn : next + 1 < 2 ^ 64 → Working line t input out₀ o v (next + 1) (e + 1) p
-      next-turn n =
-          record {
-            within = omega arith;
-            room = omega (arith, wrote-length x, fits);
-            same = wrote-length x ∙ w .same;
-            numbered = n;
-            prints = λ rest. w .prints rest ∙ prints-next rest;
-          }
-
-    pub working-known : (l : Line) → l ≡ readLine (take (e - i) (drop i input)) → (event : Event) → l ≡ Known event → (reply : Reply) → reply ≡ step u event
-        → (a : Shown) → a ≡ shownAs (reply .answer) → Wrote out written (shownLine next a (reply .table .sum) (reply .table .total)) o p
-        → written + 126 ≤ length out → next + 1 < 2 ^ 64 → Working line t input out₀ o (reply .table) (next + 1) (e + 1) p
-    unfolding after
-    working-known l read event known reply is a shows x r n =
-        next-turn (Known event) (sym known ∙ read) (reply .table) (rw is) a (reply .table .sum) (reply .table .total) (rw (shows, is) (known-line next u event)) x r n
-
-    pub working-broken : (l : Line) → l ≡ readLine (take (e - i) (drop i input)) → l ≡ Broken
-        → (a : Shown) → a ≡ plainly 15 → Wrote out written (shownLine next a (u .sum) (u .total)) o p
-        → written + 126 ≤ length out → next + 1 < 2 ^ 64 → Working line t input out₀ o u (next + 1) (e + 1) p
-    unfolding after
-    working-broken l read broken a shows x r n = next-turn Broken (sym broken ∙ read) u refl a (u .sum) (u .total) (rw shows (broken-line next u)) x r n
-
-  pub end-within : (e : ℕ) → e ≡ i + length (before newline (drop i input)) → e ≤ length input
-  end-within e at = omega (arith, w .within, before-length newline (drop i input), length-drop i input)
+  pub end-within : {e : ℕ} → e ≡ i + length (before newline (drop i input)) → e ≤ length input
+  end-within at = omega (arith, w .within, before-length newline (drop i input), length-drop i input)
 
   -- what is left has no newline, or there is no room or number for its line
   pub working-ended : Unfinished (drop i input) → Worked line t input out (record { read = i; written = written; ends = true; line = next; table = u })

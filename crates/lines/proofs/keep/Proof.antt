@@ -1,7 +1,6 @@
 -- `keep` moves byte by byte. The invariant is `Keeping`: what was moved and what is left to move make the line. The measure is what is left.
 use Prim.Native.Nat.{_-_}
 use native.Mathlib.Omega.{arith}
-use denote.Ref.{now}
 use Rattle.lines.proofs.Turning.{Keeping, keeping-first, keeping-next, keeping-last, keeping-all}
 use Rattle.lines.proofs.keep.Statement.{statement}
 use Rattle.lines.proofs.keep.Tie as tie
@@ -19,9 +18,7 @@ same-length : tie.Need-same-length Inv-loop μ-loop
 same-length c = c .before .before .loop .inv .same
 
 returns : tie.Need-returns Inv-loop μ-loop
-returns c =
-    let k = c .before .before in
-    keeping-last (now (k .before .args .buf)) (k .before .args .from) (k .before .args .have) (k .loop .buf) (k .loop .i) (k .loop .j) (k .loop .inv) (omega (arith, c .if1 .taken))
+returns c = keeping-last (c .before .before .loop .inv) (omega (arith, c .if1 .taken))
 
 slice-read-buf : tie.Need-slice-read-buf Inv-loop μ-loop
 slice-read-buf c = omega arith
@@ -39,17 +36,13 @@ loop-less : tie.Need-loop-less Inv-loop μ-loop
 loop-less c = omega arith
 
 loop-again : tie.Need-loop-again Inv-loop μ-loop
-loop-again c =
-    let k = c .before .before .before in
-    keeping-next (now (k .before .args .buf)) (k .before .args .from) (k .before .args .have) (k .loop .buf) (k .loop .i) (k .loop .j) (k .loop .inv) (c .before .before .loop-test .taken) (c .before .if1 .left)
+loop-again c = let n = c .before .before in keeping-next (n .before .loop .inv) (n .loop-test .taken) (c .before .if1 .left)
 
 same-length-2 : tie.Need-same-length-2 Inv-loop μ-loop
 same-length-2 c = c .before .loop .inv .same
 
 returns-2 : tie.Need-returns-2 Inv-loop μ-loop
-returns-2 c =
-    let k = c .before in
-    keeping-all (now (k .before .args .buf)) (k .before .args .from) (k .before .args .have) (k .loop .buf) (k .loop .i) (k .loop .j) (k .loop .inv) (c .loop-test .left)
+returns-2 c = keeping-all (c .before .loop .inv) (c .loop-test .left)
 
 pub keep-spec : {M : Type 1} → statement M
 keep-spec =

@@ -1,10 +1,59 @@
--- `turn` works the bytes that are held; if no whole line is left, it moves the unfinished one to the front.
+-- `turn` works the bytes that are held; if no whole line is left, it moves the unfinished one to the front. The sections go back through the
+-- stages to the start, and name what holds at each.
+use mathlib.Core.List.{List}
+use Prim.Native.Nat.{ℕ, _+_}
 use native.Mathlib.Omega.{arith}
 use denote.Ref.{now}
+use Rattle.lines.specs.declared.State.{State}
+use Rattle.lines.specs.Pieces.{Worked, MovedToFront, heldIn}
 use Rattle.lines.proofs.Turning.{turned-idle, turned-ends, turned-more}
 use borrow.Author.Needs.{needs}
 use Rattle.lines.proofs.turn.Statement.{statement}
 use Rattle.lines.proofs.turn.Tie as tie
+
+-- What is held lies in the buffer and is lent to `work`.
+module _ (c : tie.After-buf) where
+  abbrev tested : tie.After-table
+  tested = c .before .before .before
+
+  abbrev start : tie.Start
+  start = tested .before .before .before
+
+-- The whole lines are worked.
+module _ (c : tie.After-work) where
+  abbrev lent : tie.After-buf
+  lent = c .before .before .before
+
+  abbrev state : State
+  state = start lent .args .state
+
+  abbrev entry : List ℕ
+  entry = now (start lent .args .buf)
+
+  abbrev out : List ℕ
+  out = c .work .last .1 .1 .1 .0
+
+  worked : Worked (state .line) (state .table) (heldIn state entry) out (c .work .result)
+  worked = c .work .ensures
+
+-- It is known where the rest begins, and whether a whole line may be left in it.
+module _ (c : tie.After-struct-known) where
+  abbrev returned : tie.After-slice-known3
+  returned = c .before .before
+
+  abbrev done : tie.After-work
+  done = returned .before .before
+
+-- The rest is an unfinished line, and stands at the front.
+module _ (c : tie.After-keep) where
+  abbrev ended : tie.Then3
+  ended = c .before .before
+
+  abbrev at-end : tie.After-work
+  at-end = done (ended .before)
+
+  moved : MovedToFront (entry at-end) (state at-end .from + at-end .work .result .read) (state at-end .have) (c .keep .last .0) (c .keep .result)
+  moved = c .keep .ensures
 
 idle-requires : tie.Need-idle-requires
 idle-requires c κs = search needs
@@ -41,9 +90,9 @@ same-length-2 c = search needs
 
 returns-3 : tie.Need-returns-3
 returns-3 c =
-    let k = c .before .before .before .before .before .before .before .before .before .before .before .before .before .before .before .before .before .before in
-    let w = c .before .before .before .before .before .before .before .before .before .work in
-    turned-ends (k .args .state) (now (k .args .buf)) (w .last .1 .1 .1 .0) (w .result) (w .ensures) (c .before .before .keep .last .0) (c .before .before .keep .result) (c .before .before .before .before .if3 .taken) (c .before .before .keep .ensures)
+    let k = c .before .before in
+    let d = at-end k in
+    turned-ends (state d) (entry d) (worked d) (ended k .if3 .taken) (moved k)
 
 same-length-3 : tie.Need-same-length-3
 same-length-3 c = search needs
@@ -52,10 +101,7 @@ same-length-4 : tie.Need-same-length-4
 same-length-4 c = search needs
 
 returns-4 : tie.Need-returns-4
-returns-4 c =
-    let k = c .before .before .before .before .before .before .before .before .before .before .before .before .before .before in
-    let w = c .before .before .before .before .before .work in
-    turned-more (k .args .state) (now (k .args .buf)) (w .last .1 .1 .1 .0) (w .result) (w .ensures) (c .if3 .left)
+returns-4 c = let d = done (c .before) in turned-more (state d) (entry d) (worked d) (c .if3 .left)
 
 pub turn-spec : {M : Type 1} → statement M
 turn-spec =

@@ -1,14 +1,18 @@
 -- `work` goes from line to line. The invariant is `Working`: whatever comes after the piece, it prints what is written and then what is left
--- of it. The measure is what is left of the piece.
+-- of it. The measure is what is left of the piece. The sections follow the code through a turn of the loop, and name what holds at each stage.
 use mathlib.Core.Path.{_≡_, sym, _∙_}
+use mathlib.Core.List.{List}
 use mathlib.Core.Logic.{_⊎_}
 use Prim.Native.Nat.{ℕ, _+_, _-_, _^_, _≤_, _<_}
 use native.Mathlib.Omega.{arith}
 use lib.ListN.{length, drop}
 use borrow.Author.Needs.{needs}
 use denote.Ref.{now}
+use Rattle.lines.specs.declared.Line.the-variants.{Known, Broken}
 use Rattle.lines.specs.Cut.{newline, before}
-use Rattle.lines.proofs.Working.{Working, working-first, working-known, working-broken, working-ended, working-stopped, end-within, at-last-line, at-end-of-piece}
+use Rattle.lines.specs.Grammar.{readLine}
+use Rattle.lines.specs.Pieces.{bytesIn}
+use Rattle.lines.proofs.Working.{Working, AtLine, working-first, working-known, working-broken, working-ended, working-stopped, end-within, at-last-line, at-end-of-piece}
 use Rattle.lines.proofs.work.Statement.{statement}
 use Rattle.lines.proofs.work.Tie as tie
 
@@ -18,69 +22,146 @@ Inv-loop line input out₀ table₀ line₀ i₀ written₀ out table line' i wr
 abbrev μ-loop : tie.MeasureT-loop
 μ-loop line input out₀ table₀ line₀ i₀ written₀ out table line' i written = length input - i
 
+-- At the loop's head.
+module _ (c : tie.At-loop Inv-loop μ-loop) where
+  abbrev start : tie.Start Inv-loop μ-loop
+  start = c .before .before .before
+
+  abbrev piece : List ℕ
+  piece = now (start .args .input)
+
+  abbrev working : Working (start .args .line) (start .args .table) piece (now (start .args .out))
+      (c .loop .out) (c .loop .t) (c .loop .line) (c .loop .i) (c .loop .written)
+  working = c .loop .inv
+
+-- The end of the next line is found.
+module _ (c : tie.After-line-end Inv-loop μ-loop) where
+  abbrev head : tie.At-loop Inv-loop μ-loop
+  head = c .before .before
+
+  abbrev end : ℕ
+  end = c .line-end .result
+
+  end-is : end ≡ head .loop .i + length (before newline (drop (head .loop .i) (piece head)))
+  end-is = c .line-end .ensures
+
+  end-inside : end ≤ length (piece head)
+  end-inside = end-within (working head) end-is
+
+-- The line is whole, its answer has room, and there is a number for the line after it.
+module _ (c : tie.Else3 Inv-loop μ-loop) where
+  abbrev found : tie.After-line-end Inv-loop μ-loop
+  found = c .before .before .before
+
+  abbrev here : tie.At-loop Inv-loop μ-loop
+  here = head found
+
+  abbrev bytes : List ℕ
+  bytes = bytesIn (piece here) (here .loop .i) (end found)
+
+  at-line : AtLine (start here .args .line) (start here .args .table) (piece here) (now (start here .args .out))
+      (here .loop .out) (here .loop .t) (here .loop .line) (here .loop .i) (here .loop .written) (end found)
+  at-line =
+      record {
+        working = working here;
+        ends = end-is found;
+        inside = omega (arith, end-inside found, c .before .before .if1 .left);
+        has-room = omega (arith, working here .room, c .before .if2 .left);
+        has-number = omega (arith, working here .numbered, c .if3 .left);
+      }
+
+  next-fits : end found + 1 < 2 ^ 64
+  next-fits = omega (arith, at-line .inside, start here .good)
+
+-- The line is read.
+module _ (c : tie.After-read-line Inv-loop μ-loop) where
+  abbrev whole : tie.Else3 Inv-loop μ-loop
+  whole = c .before .before
+
+  is-read : c .read-line .result ≡ readLine (bytes whole)
+  is-read = c .read-line .ensures
+
+-- It is none of the grammar's, and its answer is made.
+module _ (c : tie.After-plain Inv-loop μ-loop) where
+  abbrev told-broken : tie.After-enum-told Inv-loop μ-loop
+  told-broken = c .before .before
+
+  abbrev read-broken : tie.After-read-line Inv-loop μ-loop
+  read-broken = told-broken .before .before
+
+  abbrev broken-line : tie.Else3 Inv-loop μ-loop
+  broken-line = whole read-broken
+
+  is-broken : readLine (bytes broken-line) ≡ Broken
+  is-broken = sym (is-read read-broken) ∙ told-broken .enum-told .given .1
+
+-- It is an event, which is applied, and its answer is made.
+module _ (c : tie.After-show Inv-loop μ-loop) where
+  abbrev applied : tie.After-apply Inv-loop μ-loop
+  applied = c .before .before .before
+
+  abbrev told-known : tie.After-event Inv-loop μ-loop
+  told-known = applied .before .before
+
+  abbrev read-known : tie.After-read-line Inv-loop μ-loop
+  read-known = told-known .before .before
+
+  abbrev known-line : tie.Else3 Inv-loop μ-loop
+  known-line = whole read-known
+
+  is-known : readLine (bytes known-line) ≡ Known (told-known .event .given .0 .0)
+  is-known = sym (is-read read-known) ∙ told-known .event .given .1
+
+-- The answer is written, and the turn ends: of a broken line, and of an event.
+module _ (c : tie.After-slice-known2 Inv-loop μ-loop) where
+  abbrev wrote-broken : tie.After-write-answer Inv-loop μ-loop
+  wrote-broken = c .before .before
+
+  abbrev was-broken : tie.Else3 Inv-loop μ-loop
+  was-broken = broken-line (wrote-broken .before)
+
+module _ (c : tie.After-slice-known3 Inv-loop μ-loop) where
+  abbrev wrote-known : tie.After-write-answer2 Inv-loop μ-loop
+  wrote-known = c .before .before
+
+  abbrev was-known : tie.Else3 Inv-loop μ-loop
+  was-known = known-line (wrote-known .before)
+
 loop-holds : tie.Need-loop-holds Inv-loop μ-loop
 loop-holds c = working-first _ _ _ _ (omega (arith, c .before .before .fits .line))
 
 line-end-requires : tie.Need-line-end-requires Inv-loop μ-loop
-line-end-requires c κs = c .before .loop .inv .within
+line-end-requires c κs = working (c .before) .within
 
 same-length : tie.Need-same-length Inv-loop μ-loop
-same-length c = c .before .before .before .loop .inv .same
+same-length c = working (head (c .before)) .same
 
 returns : tie.Need-returns Inv-loop μ-loop
-returns c =
-    let k = c .before .before .before in
-    working-ended (k .loop .inv) (at-last-line (k .loop .inv) (sym (c .before .line-end .ensures) ∙ c .if1 .taken))
+returns c = let w = working (head (c .before)) in working-ended w (at-last-line w (sym (end-is (c .before)) ∙ c .if1 .taken))
 
 sub-if2 : tie.Need-sub-if2 Inv-loop μ-loop
-sub-if2 c = c .before .before .before .loop .inv .room
+sub-if2 c = working (head (c .before)) .room
 
 same-length-2 : tie.Need-same-length-2 Inv-loop μ-loop
-same-length-2 c = c .before .before .before .before .loop .inv .same
+same-length-2 c = working (head (c .before .before)) .same
 
 returns-2 : tie.Need-returns-2 Inv-loop μ-loop
-returns-2 c =
-    let k = c .before .before .before .before in
-    working-stopped (k .loop .inv) (_⊎_.inl (omega (arith, c .if2 .taken, k .loop .inv .room)))
+returns-2 c = let w = working (head (c .before .before)) in working-stopped w (_⊎_.inl (omega (arith, c .if2 .taken, w .room)))
 
 same-length-3 : tie.Need-same-length-3 Inv-loop μ-loop
-same-length-3 c = c .before .before .before .before .before .loop .inv .same
+same-length-3 c = working (head (c .before .before .before)) .same
 
 returns-3 : tie.Need-returns-3 Inv-loop μ-loop
-returns-3 c =
-    let k = c .before .before .before .before .before in
-    working-stopped (k .loop .inv) (_⊎_.inr (omega (arith, c .if3 .taken)))
-
--- a whole line, with room for its answer and a number to count it by
-module _ (h : tie.Else3 Inv-loop μ-loop) where
-  abbrev head : tie.At-loop Inv-loop μ-loop
-  head = h .before .before .before .before .before
-
-  abbrev end : ℕ
-  end = h .before .before .before .line-end .result
-
-  end-is : end ≡ head .loop .i + length (before newline (drop (head .loop .i) (now (head .before .before .before .args .input))))
-  end-is = h .before .before .before .line-end .ensures
-
-  not-last : end < length (now (head .before .before .before .args .input))
-  not-last = omega (arith, end-within (head .loop .inv) end end-is, h .before .before .if1 .left)
-
-  has-room : head .loop .written + 126 ≤ length (head .loop .out)
-  has-room = omega (arith, h .before .if2 .left, head .loop .inv .room)
-
-  has-number : head .loop .line + 1 < 2 ^ 64
-  has-number = omega (arith, h .if3 .left, head .loop .inv .numbered)
+returns-3 c = working-stopped (working (head (c .before .before .before))) (_⊎_.inr (omega (arith, c .if3 .taken)))
 
 sub-read-line : tie.Need-sub-read-line Inv-loop μ-loop
-sub-read-line c = omega (arith, c .before .before .before .line-end .ensures)
+sub-read-line c = omega (arith, end-is (found c))
 
 part-read-line-start : tie.Need-part-read-line-start Inv-loop μ-loop
-part-read-line-start c = omega (arith, c .before .before .before .line-end .ensures)
+part-read-line-start c = omega (arith, end-is (found c))
 
 part-read-line-end : tie.Need-part-read-line-end Inv-loop μ-loop
-part-read-line-end c =
-    let k = c .before .before .before .before .before in
-    end-within (k .loop .inv) (c .before .before .before .line-end .result) (c .before .before .before .line-end .ensures)
+part-read-line-end c = end-inside (found c)
 
 read-line-requires : tie.Need-read-line-requires Inv-loop μ-loop
 read-line-requires c κs = tt
@@ -95,25 +176,21 @@ plain-requires : tie.Need-plain-requires Inv-loop μ-loop
 plain-requires c κs = tt
 
 write-answer-requires : tie.Need-write-answer-requires Inv-loop μ-loop
-write-answer-requires c κs = omega (arith, has-room (c .before .before .before .before .before .before))
+write-answer-requires c κs = at-line (broken-line c) .has-room
 
 add-line : tie.Need-add-line Inv-loop μ-loop
-add-line c = omega (arith, has-number (c .before .before .before .before .before .before .before .before .before))
+add-line c = omega (arith, at-line (was-broken c) .has-number)
 
 add-i : tie.Need-add-i Inv-loop μ-loop
-add-i c = omega (arith, not-last (c .before .before .before .before .before .before .before .before .before))
+add-i c = omega (arith, next-fits (was-broken c))
 
 loop-less : tie.Need-loop-less Inv-loop μ-loop
-loop-less c = let h = c .before .before .before .before .before .before .before .before .before in omega (arith, end-is h, not-last h)
+loop-less c = omega (arith, at-line (was-broken c))
 
 loop-again : tie.Need-loop-again Inv-loop μ-loop
 loop-again c =
-    let h = c .before .before .before .before .before .before .before .before .before in
-    let read = c .before .before .before .before .before .before .before .read-line in
-    let wrote = c .before .before .write-answer in
-    working-broken (head h .loop .inv) (end h) (wrote .last .0) (wrote .result) (end-is h) (not-last h) (read .result) (read .ensures)
-    (c .before .before .before .before .before .enum-told .given .1)
-    (c .before .before .before .plain .result) (c .before .before .before .plain .ensures) (wrote .ensures) (has-room h) (has-number h)
+    let w = wrote-broken c in
+    working-broken (at-line (was-broken c)) (is-broken (w .before)) (w .before .plain .ensures) (w .write-answer .ensures)
 
 apply-requires : tie.Need-apply-requires Inv-loop μ-loop
 apply-requires c κs = tt
@@ -122,35 +199,28 @@ show-requires : tie.Need-show-requires Inv-loop μ-loop
 show-requires c κs = tt
 
 write-answer-requires-2 : tie.Need-write-answer-requires-2 Inv-loop μ-loop
-write-answer-requires-2 c κs = omega (arith, has-room (c .before .before .before .before .before .before .before .before .before))
+write-answer-requires-2 c κs = at-line (known-line c) .has-room
 
 add-line-2 : tie.Need-add-line-2 Inv-loop μ-loop
-add-line-2 c = omega (arith, has-number (c .before .before .before .before .before .before .before .before .before .before .before .before))
+add-line-2 c = omega (arith, at-line (was-known c) .has-number)
 
 add-i-2 : tie.Need-add-i-2 Inv-loop μ-loop
-add-i-2 c = let h = c .before .before .before .before .before .before .before .before .before .before .before .before in omega (arith, not-last h, h .before .before .if1 .left)
+add-i-2 c = omega (arith, next-fits (was-known c))
 
 loop-less-2 : tie.Need-loop-less-2 Inv-loop μ-loop
-loop-less-2 c = let h = c .before .before .before .before .before .before .before .before .before .before .before .before in omega (arith, end-is h, not-last h)
+loop-less-2 c = omega (arith, at-line (was-known c))
 
 loop-again-2 : tie.Need-loop-again-2 Inv-loop μ-loop
 loop-again-2 c =
-    let h = c .before .before .before .before .before .before .before .before .before .before .before .before in
-    let read = c .before .before .before .before .before .before .before .before .before .before .read-line in
-    let event = c .before .before .before .before .before .before .before .before .event in
-    let applied = c .before .before .before .before .before .before .apply in
-    let shown = c .before .before .before .show in
-    let wrote = c .before .before .write-answer2 in
-    working-known (head h .loop .inv) (end h) (wrote .last .0) (wrote .result) (end-is h) (not-last h) (read .result) (read .ensures) (event .given .0 .0) (event .given .1)
-    (applied .result) (applied .ensures) (shown .result) (shown .ensures) (wrote .ensures) (has-room h) (has-number h)
+    let w = wrote-known c in
+    let a = w .before in
+    working-known (at-line (was-known c)) (is-known a) (applied a .apply .ensures) (a .show .ensures) (w .write-answer2 .ensures)
 
 same-length-4 : tie.Need-same-length-4 Inv-loop μ-loop
-same-length-4 c = c .before .loop .inv .same
+same-length-4 c = working (c .before) .same
 
 returns-4 : tie.Need-returns-4 Inv-loop μ-loop
-returns-4 c =
-    let k = c .before in
-    working-ended (k .loop .inv) (at-end-of-piece (k .loop .inv) (c .loop-test .left))
+returns-4 c = let w = working (c .before) in working-ended w (at-end-of-piece w (c .loop-test .left))
 
 pub work-spec : {M : Type 1} → statement M
 work-spec =
