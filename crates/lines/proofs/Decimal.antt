@@ -1,11 +1,11 @@
 -- A field is a decimal exactly when it is the digits of a number below 100,000.
 use mathlib.Core.Path.{_≡_, refl, sym, ap, _∙_}
 use mathlib.Core.Bool.{Bool, true, false, cond, not}
-use mathlib.Core.List.{List, [], _∷_, _++_, append-assoc}
+use mathlib.Core.List.{List, [], _∷_, _++_, append-assoc, append-nil}
 use mathlib.Core.Option.{none, some}
 use mathlib.Core.Logic.{⊎-elim}
 use Prim.Native.Nat.{ℕ, zero, suc, _+_, _-_, _*_, _/_, _%_, _^_, _≤_, _<_}
-use native.Mathlib.Nat.{add-zero, add-suc, suc-add, pow-suc, pow-le-pow-right}
+use native.Mathlib.Nat.{add-zero, add-suc, suc-add, pow-suc}
 use native.Mathlib.Omega.{arith}
 use lib.Dec.{leb, ltb, eqb}
 use lib.ListN.{length}
@@ -15,7 +15,7 @@ use Rattle.laws.proofs.Tests.{clash, le-or-lt, and-left, and-right, and-both, e
 use Rattle.lines.specs.Decimal.{digit, noLeadingZero, valueFrom, isDecimal, decimal, digitsIn, digits}
 use Rattle.lines.specs.Places.{placesIn}
 use Rattle.lines.proofs.Digits.{digits-last, last-length, places-one, places-more}
-use Rattle.lines.proofs.Decimals.{grows}
+use Rattle.lines.proofs.Decimals.{grows, five-digits}
 
 -- ten digits, and no more
 a-digit : (n : ℕ) → n < 10 → digit (48 + n) ≡ true
@@ -118,11 +118,7 @@ unfolding digitsIn
 more-digits k n h = rw (le-ltb n 10 h)
 
 digits-value : (k v : ℕ) (g : List ℕ) → 1 ≤ v → all digit g ≡ true → digitsIn (k + length g) (valueFrom v g) ≡ digitsIn k v ++ g
-digits-value k v [] h d = rw add-zero (sym (nil (digitsIn k v)))
-  where
-    nil : (l : List ℕ) → l ++ [] ≡ l
-    nil [] = refl
-    nil (x ∷ l) = rw (nil l)
+digits-value k v [] h d = rw add-zero (sym (append-nil (digitsIn k v)))
 digits-value k v (b ∷ g) h d =
     let low : 48 ≤ b = leb-true 48 b (and-left (leb 48 b) (leb b 57) (and-left (digit b) (all digit g) d)) in
     let high : b ≤ 57 = leb-true b 57 (and-right (leb 48 b) (leb b 57) (and-left (digit b) (all digit g) d)) in
@@ -173,8 +169,6 @@ decimal-only f v h = by (isDecimal f) refl h
         let w : valueFrom 0 f ≡ v = cc in
         let each : Each (asked f) = every-each (asked f) t in
         let short : length f ≤ 5 = leb-true (length f) 5 (each .1 .0) in
-        let below : valueFrom 0 f < 10 ^ (0 + length f) = value-small 0 0 f (omega arith) (each .1 .1 .0) in
-        let fits : 0 + length f ≤ 5 = omega arith in
-        let ten : 10 ^ (0 + length f) ≤ 10 ^ 5 = pow-le-pow-right (omega arith) fits in
+        let below : valueFrom 0 f < 100000 = five-digits (0 + length f) (valueFrom 0 f) (value-small 0 0 f (omega arith) (each .1 .1 .0)) (omega arith) in
         (rw w at (spelled f each), omega arith)
     by false t e = let z : _≡_ {A = ℕ} 0 1 = cc in absurd (omega arith)

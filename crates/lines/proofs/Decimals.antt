@@ -98,60 +98,12 @@ next n v b f z h q =
 pub goOn : List ℕ → ℕ → ℕ → ℕ → Field
 goOn s at v i = fieldAs (contd (i - at) v (before space (drop i s))) (i + length (before space (drop i s)))
 
-module _ (s : List ℕ) (at : ℕ) where
-  pub begun : fieldAt s at ≡ goOn s at 0 at
-  unfolding fieldAt goOn
-  begun = let e : at - at ≡ 0 = omega arith in rw (start, e)
-
-  module _ (v i : ℕ) (low : at ≤ i) where
-    stops : before space (drop i s) ≡ [] → i ≤ at + 5 → goOn s at v i ≡ finishedAs at i v
-    unfolding goOn finishedAs
-    stops e h = by (eqb at i) refl
-      where
-        by : (t : Bool) → eqb at i ≡ t → fieldAs (contd (i - at) v (before space (drop i s))) (i + length (before space (drop i s))) ≡ cond t Nothing (Decimal v i)
-        by true t = let z : i - at ≡ 0 = omega (arith, eqb-true at i t) in rw (e, z, nothing-yet v)
-        by false t =
-            let n : at < i = omega (arith, eqb-false at i t) in
-            rw (e, whole (i - at) v (omega arith) (omega arith), add-zero)
-
-    pub at-end : i ≡ length s → i ≤ at + 5 → goOn s at v i ≡ finishedAs at i v
-    unfolding before
-    at-end e h = stops (rw (e, drop-length)) h
-
-    module _ (here : i < length s) where
-      pub at-space : getD s i 0 ≡ space → i ≤ at + 5 → goOn s at v i ≡ finishedAs at i v
-      at-space e h = stops (rw (drop-cons s i 0 here, before-mark space (drop (suc i) s) (getD s i 0) e)) h
-
-      -- what no decimal has there
-      module _ (other : getD s i 0 ≡ space → ⊥) where
-        inside : before space (drop i s) ≡ getD s i 0 ∷ before space (drop (suc i) s)
-        inside = rw (drop-cons s i 0 here, before-other space (drop (suc i) s) (getD s i 0) other)
-
-        pub at-other : digit (getD s i 0) ≡ false → goOn s at v i ≡ Nothing
-        unfolding goOn
-        at-other h = rw (inside, no-digit (i - at) v (getD s i 0) (before space (drop (suc i) s)) h)
-
-        pub at-sixth : i - at ≡ 5 → goOn s at v i ≡ Nothing
-        unfolding goOn
-        at-sixth h = rw (inside, too-long (i - at) v (getD s i 0) (before space (drop (suc i) s)) h)
-
-        pub at-zero : zeroLeads v (i - at) ≡ true → goOn s at v i ≡ Nothing
-        unfolding goOn
-        at-zero h = rw (inside, after-zero (i - at) v (getD s i 0) (before space (drop (suc i) s)) h)
-
-        pub at-digit : (i ≡ at → v ≡ 0) → digit (getD s i 0) ≡ true → zeroLeads v (i - at) ≡ false
-            → goOn s at v i ≡ goOn s at (v * 10 + (getD s i 0 - 48)) (i + 1)
-        unfolding goOn
-        at-digit z d h =
-            let e : (i + 1) - at ≡ suc (i - at) = omega arith in
-            rw (inside, next (i - at) v (getD s i 0) (before space (drop (suc i) s)) (λ x. z (omega arith)) d h, e, add-one, add-suc, suc-add)
-
 -- n digits make less than 10 to the n
 pub grows : (n v d : ℕ) → v < 10 ^ n → d < 10 → v * 10 + d < 10 ^ suc n
 grows n v d h k = rw pow-suc (omega arith)
 
-pub five : (n v : ℕ) → v < 10 ^ n → n ≤ 5 → v < 100000
-five n v h k = let l : 10 ^ n ≤ 10 ^ 5 = pow-le-pow-right (omega arith) k in omega arith
+pub five-digits : (n v : ℕ) → v < 10 ^ n → n ≤ 5 → v < 100000
+five-digits n v h k = let l : 10 ^ n ≤ 10 ^ 5 = pow-le-pow-right (omega arith) k in omega arith
 
 -- what holds of the loop that reads a field: the digits so far, and that the rest of the field decides
 pub record Reached (s : List ℕ) (at v i : ℕ) : Type 0 where
@@ -163,31 +115,74 @@ pub record Reached (s : List ℕ) (at v i : ℕ) : Type 0 where
   pub decides : fieldAt s at ≡ goOn s at v i
 
 pub reached-first : (s : List ℕ) (at : ℕ) → at ≤ length s → Reached s at 0 at
+unfolding fieldAt goOn
 reached-first s at h =
-    record { low = omega arith; high = h; few = omega arith; none-made = λ e. refl; small = let e : at - at ≡ 0 = omega arith in rw e (omega arith); decides = begun s at }
+    let none-yet : at - at ≡ 0 = omega arith in
+    record { low = omega arith; high = h; few = omega arith; none-made = λ e. refl; small = rw none-yet (omega arith); decides = rw (start, none-yet) }
 
-module _ (s : List ℕ) (at v i : ℕ) (r : Reached s at v i) (here : i < length s) (other : getD s i 0 ≡ space → ⊥) where
+module _ {s : List ℕ} {at v i : ℕ} (r : Reached s at v i) where
+  pub below-six-digits : v < 100000
+  below-six-digits = five-digits (i - at) v (r .small) (omega (arith, r .few))
+
+  -- the field ends here
+  stops : before space (drop i s) ≡ [] → fieldAt s at ≡ finishedAs at i v
+  unfolding goOn finishedAs
+  stops e = r .decides ∙ by (eqb at i) refl
+    where
+      by : (t : Bool) → eqb at i ≡ t → fieldAs (contd (i - at) v (before space (drop i s))) (i + length (before space (drop i s))) ≡ cond t Nothing (Decimal v i)
+      by true t = let z : i - at ≡ 0 = omega (arith, eqb-true at i t) in rw (e, z, nothing-yet v)
+      by false t =
+          let n : at < i = omega (arith, r .low, eqb-false at i t) in
+          rw (e, whole (i - at) v (omega arith) (omega (arith, r .few)), add-zero)
+
+  pub ends-there : i ≡ length s → fieldAt s at ≡ finishedAs at i v
+  unfolding before
+  ends-there e = stops (rw (e, drop-length))
+
+  pub ends-at-space : i < length s → getD s i 0 ≡ space → fieldAt s at ≡ finishedAs at i v
+  ends-at-space here e = stops (rw (drop-cons s i 0 here, before-mark space (drop (suc i) s) (getD s i 0) e))
+
+-- and the byte at i belongs to the field
+pub record AtByte (s : List ℕ) (at v i : ℕ) : Type 0 where
+  pub reached : Reached s at v i
+  pub here : i < length s
+  pub other : getD s i 0 ≡ space → ⊥
+
+module _ {s : List ℕ} {at v i : ℕ} (b : AtByte s at v i) where
+  the-rest : before space (drop i s) ≡ getD s i 0 ∷ before space (drop (suc i) s)
+  the-rest = rw (drop-cons s i 0 (b .here), before-other space (drop (suc i) s) (getD s i 0) (b .other))
+
+  -- what no decimal has there
+  refused : contd (i - at) v (getD s i 0 ∷ before space (drop (suc i) s)) ≡ none → fieldAt s at ≡ Nothing
+  unfolding goOn
+  refused h = b .reached .decides ∙ rw (the-rest, h)
+
+  pub refused-other : digit (getD s i 0) ≡ false → fieldAt s at ≡ Nothing
+  refused-other h = refused (no-digit (i - at) v (getD s i 0) (before space (drop (suc i) s)) h)
+
+  pub refused-sixth : i - at ≡ 5 → fieldAt s at ≡ Nothing
+  refused-sixth h = refused (too-long (i - at) v (getD s i 0) (before space (drop (suc i) s)) h)
+
+  pub refused-zero : zeroLeads v (i - at) ≡ true → fieldAt s at ≡ Nothing
+  refused-zero h = refused (after-zero (i - at) v (getD s i 0) (before space (drop (suc i) s)) h)
+
+  -- one digit further
   pub reached-next : 48 ≤ getD s i 0 → getD s i 0 ≤ 57 → (i - at ≡ 5 → ⊥) → zeroLeads v (i - at) ≡ false → Reached s at (v * 10 + (getD s i 0 - 48)) (i + 1)
-  reached-next a b n z =
+  unfolding goOn
+  reached-next a c n z =
+      let r = b .reached in
+      let more : (i + 1) - at ≡ suc (i - at) = omega (arith, r .low) in
+      let is-digit : digit (getD s i 0) ≡ true = and-both (le-leb 48 (getD s i 0) a) (le-leb (getD s i 0) 57 c) in
       record {
-        low = omega arith;
-        high = omega arith;
+        low = omega (arith, r .low);
+        high = omega (arith, b .here);
         few = omega (arith, r .low, r .few, n);
         none-made = λ e. absurd (omega (arith, r .low));
-        small =
-            let e : (i + 1) - at ≡ suc (i - at) = omega (arith, r .low) in
-            rw e (grows (i - at) v (getD s i 0 - 48) (r .small) (omega arith));
-        decides = r .decides ∙ at-digit s at v i (r .low) here other (r .none-made) (and-both (le-leb 48 (getD s i 0) a) (le-leb (getD s i 0) 57 b)) z;
+        small = rw more (grows (i - at) v (getD s i 0 - 48) (r .small) (omega arith));
+        decides =
+            r .decides
+            ∙ rw (the-rest, next (i - at) v (getD s i 0) (before space (drop (suc i) s)) (λ x. r .none-made (omega (arith, r .low))) is-digit z, more, add-one, add-suc, suc-add);
       }
-
-  pub reached-other : digit (getD s i 0) ≡ false → fieldAt s at ≡ Nothing
-  reached-other h = r .decides ∙ at-other s at v i (r .low) here other h
-
-  pub reached-sixth : i - at ≡ 5 → fieldAt s at ≡ Nothing
-  reached-sixth h = r .decides ∙ at-sixth s at v i (r .low) here other h
-
-  pub reached-zero : zeroLeads v (i - at) ≡ true → fieldAt s at ≡ Nothing
-  reached-zero h = r .decides ∙ at-zero s at v i (r .low) here other h
 
 pub under-digits : (b : ℕ) → b < 48 → digit b ≡ false
 under-digits b h = rw (lt-leb 48 b h)

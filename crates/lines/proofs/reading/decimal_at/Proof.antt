@@ -1,10 +1,11 @@
 -- `decimal_at` reads the field that begins at a place. The invariant is `Reached`: the digits so far are few and make a small number, and
 -- the field's answer is what the rest of it decides. The measure is what is left of the line.
 use mathlib.Core.Path.{sym, _∙_}
-use Prim.Native.Nat.{_-_}
-use lib.ListN.{length}
+use mathlib.Core.List.{List}
+use Prim.Native.Nat.{ℕ, _-_, _≤_, _<_}
+use lib.ListN.{length, getD}
 use native.Mathlib.Omega.{arith}
-use Rattle.lines.proofs.Decimals.{Reached, reached-first, reached-next, reached-other, reached-sixth, reached-zero, at-space, at-end, under-digits, over-digits, five}
+use Rattle.lines.proofs.Decimals.{Reached, AtByte, reached-first, reached-next, below-six-digits, ends-at-space, ends-there, refused-other, refused-sixth, refused-zero, under-digits, over-digits}
 use denote.Ref.{now}
 use Rattle.lines.proofs.reading.decimal_at.Statement.{statement}
 use Rattle.lines.proofs.reading.decimal_at.Tie as tie
@@ -14,6 +15,52 @@ Inv-loop s at value₀ i₀ value i = Reached s at value i
 
 abbrev μ-loop : tie.MeasureT-loop
 μ-loop s at value₀ i₀ value i = length s - i
+
+-- At the loop's head.
+module _ (c : tie.At-loop Inv-loop μ-loop) where
+  abbrev line : List ℕ
+  line = now (c .before .before .args .s)
+
+  abbrev reached : Reached line (c .before .before .args .at) (c .loop .value) (c .loop .i)
+  reached = c .loop .inv
+
+-- A byte is read.
+module _ (c : tie.After-shared-slice-known2 Inv-loop μ-loop) where
+  abbrev head : tie.At-loop Inv-loop μ-loop
+  head = c .before .before
+
+  abbrev byte : ℕ
+  byte = getD (line head) (head .loop .i) 0
+
+  inside : head .loop .i < length (line head)
+  inside = c .before .loop-test .taken
+
+-- It is no space.
+module _ (c : tie.Else1 Inv-loop μ-loop) where
+  abbrev here : tie.At-loop Inv-loop μ-loop
+  here = head (c .before)
+
+  at-byte : AtByte (line here) (here .before .before .args .at) (here .loop .value) (here .loop .i)
+  at-byte = record { reached = reached here; here = inside (c .before); other = c .if1 .left }
+
+-- It is a digit, and not the sixth.
+module _ (c : tie.Else4 Inv-loop μ-loop) where
+  abbrev in-field : tie.Else1 Inv-loop μ-loop
+  in-field = c .before .before .before
+
+  low : 48 ≤ byte (in-field .before)
+  low = c .before .before .if2 .left
+
+  high : byte (in-field .before) ≤ 57
+  high = c .before .if3 .left
+
+-- No zero leads: the digit counts.
+module _ (c : tie.Else5 Inv-loop μ-loop) where
+  abbrev digit : tie.Else4 Inv-loop μ-loop
+  digit = c .before .before
+
+  small : here (in-field digit) .loop .value < 100000
+  small = below-six-digits (reached (here (in-field digit)))
 
 loop-holds : tie.Need-loop-holds Inv-loop μ-loop
 loop-holds c = reached-first _ _ (c .before .pre)
@@ -26,46 +73,20 @@ finished-requires c κs = tt
 
 returns : tie.Need-returns Inv-loop μ-loop
 returns c =
-    let k = c .before .before .before .before in
-    let i = k .loop .i in
-    let s = now (k .before .before .args .s) in
-    let a = k .before .before .args .at in
-    let v = k .loop .value in
-    let r : Reached s a v i = k .loop .inv in
-    c .finished .ensures ∙ sym (r .decides ∙ at-space s a v i (r .low) (c .before .before .before .loop-test .taken) (c .before .if1 .taken) (r .few))
+    let k = c .before .before in
+    c .finished .ensures ∙ sym (ends-at-space (reached (head k)) (inside k) (c .before .if1 .taken))
 
 returns-2 : tie.Need-returns-2 Inv-loop μ-loop
-returns-2 c =
-    let k = c .before .before .before .before in
-    let i = k .loop .i in
-    let s = now (k .before .before .args .s) in
-    let a = k .before .before .args .at in
-    let v = k .loop .value in
-    let r : Reached s a v i = k .loop .inv in
-    sym (reached-other s a v i r (c .before .before .before .loop-test .taken) (c .before .if1 .left) (under-digits _ (c .if2 .taken)))
+returns-2 c = sym (refused-other (at-byte (c .before)) (under-digits _ (c .if2 .taken)))
 
 returns-3 : tie.Need-returns-3 Inv-loop μ-loop
-returns-3 c =
-    let k = c .before .before .before .before .before in
-    let i = k .loop .i in
-    let s = now (k .before .before .args .s) in
-    let a = k .before .before .args .at in
-    let v = k .loop .value in
-    let r : Reached s a v i = k .loop .inv in
-    sym (reached-other s a v i r (c .before .before .before .before .loop-test .taken) (c .before .before .if1 .left) (over-digits _ (c .if3 .taken)))
+returns-3 c = sym (refused-other (at-byte (c .before .before)) (over-digits _ (c .if3 .taken)))
 
 sub-if4 : tie.Need-sub-if4 Inv-loop μ-loop
 sub-if4 c = omega arith
 
 returns-4 : tie.Need-returns-4 Inv-loop μ-loop
-returns-4 c =
-    let k = c .before .before .before .before .before .before in
-    let i = k .loop .i in
-    let s = now (k .before .before .args .s) in
-    let a = k .before .before .args .at in
-    let v = k .loop .value in
-    let r : Reached s a v i = k .loop .inv in
-    sym (reached-sixth s a v i r (c .before .before .before .before .before .loop-test .taken) (c .before .before .before .if1 .left) (c .if4 .taken))
+returns-4 c = sym (refused-sixth (at-byte (c .before .before .before)) (c .if4 .taken))
 
 sub-zero-leads : tie.Need-sub-zero-leads Inv-loop μ-loop
 sub-zero-leads c = omega arith
@@ -74,37 +95,16 @@ zero-leads-requires : tie.Need-zero-leads-requires Inv-loop μ-loop
 zero-leads-requires c κs = tt
 
 returns-5 : tie.Need-returns-5 Inv-loop μ-loop
-returns-5 c =
-    let k = c .before .before .before .before .before .before .before .before in
-    let i = k .loop .i in
-    let s = now (k .before .before .args .s) in
-    let a = k .before .before .args .at in
-    let v = k .loop .value in
-    let r : Reached s a v i = k .loop .inv in
-    sym (reached-zero s a v i r (c .before .before .before .before .before .before .before .loop-test .taken) (c .before .before .before .before .before .if1 .left) (sym (c .before .zero-leads .ensures) ∙ c .if5 .taken))
+returns-5 c = sym (refused-zero (at-byte (in-field (c .before .before))) (sym (c .before .zero-leads .ensures) ∙ c .if5 .taken))
 
 mul-value : tie.Need-mul-value Inv-loop μ-loop
-mul-value c =
-    let k = c .before .before .before .before .before .before .before .before in
-    let i = k .loop .i in
-    let s = now (k .before .before .args .s) in
-    let a = k .before .before .args .at in
-    let v = k .loop .value in
-    let r : Reached s a v i = k .loop .inv in
-    omega (arith, five (i - a) v (r .small) (omega (arith, r .few)))
+mul-value c = omega (arith, small c)
 
 cast-value : tie.Need-cast-value Inv-loop μ-loop
-cast-value c = omega (arith, c .before .before .before .if3 .left)
+cast-value c = omega (arith, high (digit c))
 
 add-value : tie.Need-add-value Inv-loop μ-loop
-add-value c =
-    let k = c .before .before .before .before .before .before .before .before in
-    let i = k .loop .i in
-    let s = now (k .before .before .args .s) in
-    let a = k .before .before .args .at in
-    let v = k .loop .value in
-    let r : Reached s a v i = k .loop .inv in
-    omega (arith, five (i - a) v (r .small) (omega (arith, r .few)), c .before .before .before .if3 .left)
+add-value c = omega (arith, small c, high (digit c))
 
 add-i : tie.Need-add-i Inv-loop μ-loop
 add-i c = omega arith
@@ -114,26 +114,16 @@ loop-less c = omega arith
 
 loop-again : tie.Need-loop-again Inv-loop μ-loop
 loop-again c =
-    let k = c .before .before .before .before .before .before .before .before in
-    let i = k .loop .i in
-    let s = now (k .before .before .args .s) in
-    let a = k .before .before .args .at in
-    let v = k .loop .value in
-    let r : Reached s a v i = k .loop .inv in
-    reached-next s a v i r (c .before .before .before .before .before .before .before .loop-test .taken) (c .before .before .before .before .before .if1 .left) (c .before .before .before .before .if2 .left) (c .before .before .before .if3 .left) (c .before .before .if4 .left) (sym (c .before .zero-leads .ensures) ∙ c .if5 .left)
+    let d = digit c in
+    reached-next (at-byte (in-field d)) (low d) (high d) (d .if4 .left) (sym (c .before .zero-leads .ensures) ∙ c .if5 .left)
 
 finished-requires-2 : tie.Need-finished-requires-2 Inv-loop μ-loop
 finished-requires-2 c κs = tt
 
 returns-6 : tie.Need-returns-6 Inv-loop μ-loop
 returns-6 c =
-    let k = c .before .before in
-    let i = k .loop .i in
-    let s = now (k .before .before .args .s) in
-    let a = k .before .before .args .at in
-    let v = k .loop .value in
-    let r : Reached s a v i = k .loop .inv in
-    c .finished2 .ensures ∙ sym (r .decides ∙ at-end s a v i (r .low) (omega (arith, r .high)) (r .few))
+    let r = reached (c .before .before) in
+    c .finished2 .ensures ∙ sym (ends-there r (omega (arith, r .high, c .before .loop-test .left)))
 
 pub decimal-at-spec : {M : Type 1} → statement M
 decimal-at-spec =
