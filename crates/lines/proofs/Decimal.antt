@@ -14,8 +14,8 @@ use Rattle.laws.specs.Lists.{all}
 use Rattle.laws.proofs.Tests.{clash, le-or-lt, and-left, and-right, and-both, every-each, each-every, Each}
 use Rattle.lines.specs.Decimal.{digit, noLeadingZero, valueFrom, isDecimal, decimal, digitsIn, digits}
 use Rattle.lines.specs.Places.{placesIn}
-use Rattle.lines.proofs.Digits.{digits-last, last-length, places-one, places-more}
-use Rattle.lines.proofs.Decimals.{grows, five-digits}
+use Rattle.lines.proofs.Digits.{digits-length, places-one, places-more}
+use Rattle.lines.proofs.Decimals.{digit-low, digit-high, grows, five-digits}
 
 -- ten digits, and no more
 a-digit : (n : ℕ) → n < 10 → digit (48 + n) ≡ true
@@ -88,7 +88,7 @@ few-places (suc k) (suc j) n h =
     (λ (l : n < 10). omega (arith, places-one (suc k) n l)) (le-or-lt 10 n)
 
 pub few-digits : (n : ℕ) → n < 100000 → length (digits n) ≤ 5
-few-digits n h = rw (digits-last 19 n, last-length (placesIn 19 n) n) (few-places 19 4 n h)
+few-digits n h = rw (digits-length n) (few-places 19 4 n h)
 
 places-some : (k n : ℕ) → 1 ≤ placesIn k n
 unfolding placesIn
@@ -102,7 +102,7 @@ places-some (suc k) n = by (ltb n 10)
 pub decimal-digits : (n : ℕ) → n < 100000 → decimal (digits n) ≡ some n
 unfolding decimal isDecimal
 decimal-digits n h =
-    let one : 1 ≤ length (digits n) = rw (digits-last 19 n, last-length (placesIn 19 n) n) (places-some 19 n) in
+    let one : 1 ≤ length (digits n) = rw (digits-length n) (places-some 19 n) in
     rw (each-every (leb 1 (length (digits n)) ∷ leb (length (digits n)) 5 ∷ all digit (digits n) ∷ noLeadingZero (digits n) ∷ [])
     (le-leb 1 (length (digits n)) one, (le-leb (length (digits n)) 5 (few-digits n h), (all-digits 19 n, (leads n (omega arith), tt)))))
     (ap some (value-digits 19 n (omega arith)))
@@ -120,8 +120,8 @@ more-digits k n h = rw (le-ltb n 10 h)
 digits-value : (k v : ℕ) (g : List ℕ) → 1 ≤ v → all digit g ≡ true → digitsIn (k + length g) (valueFrom v g) ≡ digitsIn k v ++ g
 digits-value k v [] h d = rw add-zero (sym (append-nil (digitsIn k v)))
 digits-value k v (b ∷ g) h d =
-    let low : 48 ≤ b = leb-true 48 b (and-left (leb 48 b) (leb b 57) (and-left (digit b) (all digit g) d)) in
-    let high : b ≤ 57 = leb-true b 57 (and-right (leb 48 b) (leb b 57) (and-left (digit b) (all digit g) d)) in
+    let low : 48 ≤ b = digit-low b (and-left (digit b) (all digit g) d) in
+    let high : b ≤ 57 = digit-high b (and-left (digit b) (all digit g) d) in
     let q : (v * 10 + (b - 48)) / 10 ≡ v = omega arith in
     let r : 48 + (v * 10 + (b - 48)) % 10 ≡ b = omega arith in
     let p : digitsIn (suc k) (v * 10 + (b - 48)) ≡ digitsIn k v ++ (b ∷ []) = rw (more-digits k (v * 10 + (b - 48)) (omega arith), q, r) in
@@ -130,35 +130,30 @@ digits-value k v (b ∷ g) h d =
 value-small : (j v : ℕ) (g : List ℕ) → v < 10 ^ j → all digit g ≡ true → valueFrom v g < 10 ^ (j + length g)
 value-small j v [] h d = rw add-zero h
 value-small j v (b ∷ g) h d =
-    let high : b ≤ 57 = leb-true b 57 (and-right (leb 48 b) (leb b 57) (and-left (digit b) (all digit g) d)) in
+    let high : b ≤ 57 = digit-high b (and-left (digit b) (all digit g) d) in
     rw (add-suc, ← suc-add) (value-small (suc j) (v * 10 + (b - 48)) g (grows j v (b - 48) h (omega arith)) (and-right (digit b) (all digit g) d))
 
 abbrev asked : List ℕ → List Bool
 asked l = leb 1 (length l) ∷ leb (length l) 5 ∷ all digit l ∷ noLeadingZero l ∷ []
 
-module _ (b : ℕ) (d : digit b ≡ true) where
-  low : 48 ≤ b
-  low = leb-true 48 b (and-left (leb 48 b) (leb b 57) d)
-
-  high : b ≤ 57
-  high = leb-true b 57 (and-right (leb 48 b) (leb b 57) d)
-
-  this-digit : (k : ℕ) → digitsIn k (0 + (b - 48)) ≡ b ∷ []
-  this-digit k = let e : 48 + (0 + (b - 48)) ≡ b = omega (arith, low) in rw (one-digit k (0 + (b - 48)) (omega (arith, high)), e)
+this-digit : (b k : ℕ) → digit b ≡ true → digitsIn k (0 + (b - 48)) ≡ b ∷ []
+this-digit b k d =
+    let e : 48 + (0 + (b - 48)) ≡ b = omega (arith, digit-low b d) in
+    rw (one-digit k (0 + (b - 48)) (omega (arith, digit-high b d)), e)
 
 spelled : (l : List ℕ) → Each (asked l) → l ≡ digits (valueFrom 0 l)
 spelled [] e = absurd (omega (arith, leb-true 1 0 (e .0)))
-spelled (b ∷ []) e = sym (this-digit b (and-left (digit b) true (e .1 .1 .0)) 19)
+spelled (b ∷ []) e = sym (this-digit b 19 (and-left (digit b) true (e .1 .1 .0)))
 spelled (b ∷ c ∷ g) e =
     let db : digit b ≡ true = and-left (digit b) (all digit (c ∷ g)) (e .1 .1 .0) in
     let dg : all digit (c ∷ g) ≡ true = and-right (digit b) (all digit (c ∷ g)) (e .1 .1 .0) in
     let short : suc (suc (length g)) ≤ 5 = leb-true (suc (suc (length g))) 5 (e .1 .0) in
     let k : ℕ = 19 - suc (length g) in
     let fuel : k + suc (length g) ≡ 19 = omega arith in
-    let some-value : 1 ≤ 0 + (b - 48) = omega (arith, low b db, eqb-false b 48 (not-true (eqb b 48) (e .1 .1 .1 .0))) in
+    let some-value : 1 ≤ 0 + (b - 48) = omega (arith, digit-low b db, eqb-false b 48 (not-true (eqb b 48) (e .1 .1 .1 .0))) in
     let whole : digitsIn (k + suc (length g)) (valueFrom 0 (b ∷ c ∷ g)) ≡ digitsIn k (0 + (b - 48)) ++ (c ∷ g) =
     digits-value k (0 + (b - 48)) (c ∷ g) some-value dg in
-    sym (rw fuel at whole ∙ rw (this-digit b db k))
+    sym (rw fuel at whole ∙ rw (this-digit b k db))
 
 pub decimal-only : (f : List ℕ) (v : ℕ) → decimal f ≡ some v → (f ≡ digits v) × (v < 100000)
 unfolding decimal isDecimal

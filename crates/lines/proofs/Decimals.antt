@@ -1,6 +1,6 @@
 -- A decimal read from the left. After n digits that make v the rest of the field decides: `contd` says how, and each byte takes it one
 -- digit further or refuses the field.
-use mathlib.Core.Path.{_≡_, refl, _∙_}
+use mathlib.Core.Path.{_≡_, refl, sym, _∙_}
 use mathlib.Core.Bool.{Bool, true, false, cond, not}
 use mathlib.Core.List.{List, [], _∷_}
 use mathlib.Core.Option.{Option, none, some}
@@ -10,7 +10,6 @@ use native.Mathlib.Numerals.{add-one}
 use native.Mathlib.Omega.{arith}
 use lib.Dec.{leb, ltb, eqb}
 use lib.ListN.{length, drop, getD}
-use lib.Seq.{drop-cons, drop-length}
 use borrow.Author.Tests.{leb-true, le-leb, lt-leb, lt-ltb, ltb-true, eqb-true, eqb-false, eq-eqb, ne-eqb}
 use Rattle.laws.specs.Lists.{every, all}
 use Rattle.laws.proofs.Tests.{refuted, clash, and-left, and-right, and-both, every-each, each-every, Each}
@@ -19,7 +18,14 @@ use Rattle.lines.specs.Decimal.{digit, noLeadingZero, valueFrom, isDecim
 use Rattle.lines.specs.Reading.{fieldAs, fieldAt, finishedAs, zeroLeads}
 use Rattle.lines.specs.declared.reading.Field.{Field}
 use Rattle.lines.specs.declared.reading.Field.the-variants.{Decimal, Nothing}
-use Rattle.lines.proofs.Cutting.{before-mark, before-other}
+use Rattle.lines.proofs.Cutting.{found-here, found-later, found-nowhere}
+
+module _ (b : ℕ) (d : digit b ≡ true) where
+  pub digit-low : 48 ≤ b
+  digit-low = leb-true 48 b (and-left (leb 48 b) (leb b 57) d)
+
+  pub digit-high : b ≤ 57
+  digit-high = leb-true b 57 (and-right (leb 48 b) (leb b 57) d)
 
 abbrev pub isNil : List ℕ → Bool
 isNil [] = true
@@ -48,15 +54,15 @@ nothing-yet : (v : ℕ) → contd 0 v [] ≡ none
 unfolding contd every
 nothing-yet v = refl
 
+either-way : (t : Bool) → cond t true true ≡ true
+either-way true = refl
+either-way false = refl
+
 whole : (n v : ℕ) → 0 < n → n ≤ 5 → contd n v [] ≡ some v
 unfolding contd
 whole zero v h l = absurd (omega arith)
 whole (suc n) v h l =
-    rw (each-every (tests (suc n) v []) (le-leb 1 (suc n + 0) (omega arith), (le-leb (suc n + 0) 5 (omega arith), (refl, (by (eqb v 0), tt)))))
-  where
-    by : (t : Bool) → cond t true true ≡ true
-    by true = refl
-    by false = refl
+    rw (each-every (tests (suc n) v []) (le-leb 1 (suc n + 0) (omega arith), (le-leb (suc n + 0) 5 (omega arith), (refl, (either-way (eqb v 0), tt)))))
 
 no-digit : (n v b : ℕ) (f : List ℕ) → digit b ≡ false → contd n v (b ∷ f) ≡ none
 no-digit n v b f h = refuse n v (b ∷ f) (λ e. clash (and-left (digit b) (all digit f) (e .1 .1 .0)) h)
@@ -73,11 +79,7 @@ after-zero (suc n) v b f h =
 
 lead-next : (n v b : ℕ) (f : List ℕ) → (n ≡ 0 → v ≡ 0) → 48 ≤ b → zeroLeads v n ≡ false → lead n v (b ∷ f) ≡ lead (suc n) (v * 10 + (b - 48)) f
 unfolding zeroLeads
-lead-next zero v b [] z h q = by (eqb (v * 10 + (b - 48)) 0)
-  where
-    by : (t : Bool) → true ≡ cond t true true
-    by true = refl
-    by false = refl
+lead-next zero v b [] z h q = sym (either-way (eqb (v * 10 + (b - 48)) 0))
 lead-next zero v b (x ∷ f) z h q = by (eqb b 48) refl
   where
     by : (t : Bool) → eqb b 48 ≡ t → not t ≡ cond (eqb (v * 10 + (b - 48)) 0) false true
@@ -92,7 +94,7 @@ lead-next (suc n) v b f z h q = by (eqb v 0) refl
 next : (n v b : ℕ) (f : List ℕ) → (n ≡ 0 → v ≡ 0) → digit b ≡ true → zeroLeads v n ≡ false → contd n v (b ∷ f) ≡ contd (suc n) (v * 10 + (b - 48)) f
 unfolding contd
 next n v b f z h q =
-    rw (lead-next n v b f z (leb-true 48 b (and-left (leb 48 b) (leb b 57) h)) q, h, add-suc, ← suc-add)
+    rw (lead-next n v b f z (digit-low b h) q, h, add-suc, ← suc-add)
 
 -- the field as it stands at place i, after the digits from place `at` on made v
 pub goOn : List ℕ → ℕ → ℕ → ℕ → Field
@@ -136,11 +138,10 @@ module _ {s : List ℕ} {at v i : ℕ} (r : Reached s at v i) where
           rw (e, whole (i - at) v (omega arith) (omega (arith, r .few)), add-zero)
 
   pub ends-there : i ≡ length s → fieldAt s at ≡ finishedAs at i v
-  unfolding before
-  ends-there e = stops (rw (e, drop-length))
+  ends-there e = stops (found-nowhere space s i e)
 
   pub ends-at-space : i < length s → getD s i 0 ≡ space → fieldAt s at ≡ finishedAs at i v
-  ends-at-space here e = stops (rw (drop-cons s i 0 here, before-mark space (drop (suc i) s) (getD s i 0) e))
+  ends-at-space here e = stops (found-here space s i here e)
 
 -- and the byte at i belongs to the field
 pub record AtByte (s : List ℕ) (at v i : ℕ) : Type 0 where
@@ -149,22 +150,25 @@ pub record AtByte (s : List ℕ) (at v i : ℕ) : Type 0 where
   pub other : getD s i 0 ≡ space → ⊥
 
 module _ {s : List ℕ} {at v i : ℕ} (b : AtByte s at v i) where
-  the-rest : before space (drop i s) ≡ getD s i 0 ∷ before space (drop (suc i) s)
-  the-rest = rw (drop-cons s i 0 (b .here), before-other space (drop (suc i) s) (getD s i 0) (b .other))
+  abbrev rest : List ℕ
+  rest = before space (drop (i + 1) s)
+
+  the-rest : before space (drop i s) ≡ getD s i 0 ∷ rest
+  the-rest = found-later space s i (b .here) (b .other)
 
   -- what no decimal has there
-  refused : contd (i - at) v (getD s i 0 ∷ before space (drop (suc i) s)) ≡ none → fieldAt s at ≡ Nothing
+  refused : contd (i - at) v (getD s i 0 ∷ rest) ≡ none → fieldAt s at ≡ Nothing
   unfolding goOn
   refused h = b .reached .decides ∙ rw (the-rest, h)
 
   pub refused-other : digit (getD s i 0) ≡ false → fieldAt s at ≡ Nothing
-  refused-other h = refused (no-digit (i - at) v (getD s i 0) (before space (drop (suc i) s)) h)
+  refused-other h = refused (no-digit (i - at) v (getD s i 0) rest h)
 
   pub refused-sixth : i - at ≡ 5 → fieldAt s at ≡ Nothing
-  refused-sixth h = refused (too-long (i - at) v (getD s i 0) (before space (drop (suc i) s)) h)
+  refused-sixth h = refused (too-long (i - at) v (getD s i 0) rest h)
 
   pub refused-zero : zeroLeads v (i - at) ≡ true → fieldAt s at ≡ Nothing
-  refused-zero h = refused (after-zero (i - at) v (getD s i 0) (before space (drop (suc i) s)) h)
+  refused-zero h = refused (after-zero (i - at) v (getD s i 0) rest h)
 
   -- one digit further
   pub reached-next : 48 ≤ getD s i 0 → getD s i 0 ≤ 57 → (i - at ≡ 5 → ⊥) → zeroLeads v (i - at) ≡ false → Reached s at (v * 10 + (getD s i 0 - 48)) (i + 1)
@@ -181,7 +185,7 @@ module _ {s : List ℕ} {at v i : ℕ} (b : AtByte s at v i) where
         small = rw more (grows (i - at) v (getD s i 0 - 48) (r .small) (omega arith));
         decides =
             r .decides
-            ∙ rw (the-rest, next (i - at) v (getD s i 0) (before space (drop (suc i) s)) (λ x. r .none-made (omega (arith, r .low))) is-digit z, more, add-one, add-suc, suc-add);
+            ∙ rw (the-rest, next (i - at) v (getD s i 0) rest (λ x. r .none-made (omega (arith, r .low))) is-digit z, more, add-one, add-suc, suc-add);
       }
 
 pub under-digits : (b : ℕ) → b < 48 → digit b ≡ false

@@ -7,7 +7,7 @@ use Prim.Native.Nat.{ℕ, zero, suc, _+_, _-_, _/_, _%_, _^_, _≤_, _<_}
 use native.Mathlib.Nat.{add-zero, add-suc, suc-add, pow-suc}
 use native.Mathlib.Omega.{arith}
 use lib.Dec.{ltb}
-use lib.ListN.{length, take, drop, set, length-append}
+use lib.ListN.{length, take, drop, set, length-append, length-set}
 use lib.Seq.{sets, length-sets, set-comm, sets-eq, take-at, length-take-le}
 use borrow.Author.Tests.{lt-ltb, le-ltb, ltb-true}
 use Rattle.laws.proofs.Tests.{le-or-lt, either}
@@ -85,8 +85,8 @@ pub record Counting (n k rest : ℕ) : Type 0 where
 pub counting-first : (n : ℕ) → n < 2 ^ 64 → Counting n 1 n
 counting-first n h = record { some-counted = omega arith; few = omega arith; small = omega arith; others = omega arith }
 
-pub counting-next : (n k rest : ℕ) → Counting n k rest → 10 ≤ rest → Counting n (k + 1) (rest / 10)
-counting-next n k rest c h =
+pub counting-next : {n k rest : ℕ} → Counting n k rest → 10 ≤ rest → Counting n (k + 1) (rest / 10)
+counting-next {n} {k} {rest} c h =
     record {
       some-counted = omega arith;
       few = more;
@@ -103,16 +103,33 @@ counting-next n k rest c h =
     fuel : 20 - k ≡ suc (20 - (k + 1))
     fuel = omega (arith, more)
 
-pub counting-last : (n k rest : ℕ) → Counting n k rest → rest < 10 → k ≡ places n
-counting-last n k rest c h = omega (arith, c .others, c .some-counted, places-one (20 - k) rest h)
+pub counting-last : {n k rest : ℕ} → Counting n k rest → rest < 10 → k ≡ places n
+counting-last {n} {k} {rest} c h = omega (arith, c .others, c .some-counted, places-one (20 - k) rest h)
 
--- what holds of the loop that fills: what is left to fill, put over what stands there, makes the whole
-pub filling-next : (out : List ℕ) (at i rest : ℕ) → at < i → sets (set out (i - 1) (48 + rest % 10)) at (lastDigits ((i - 1) - at) (rest / 10)) ≡ sets out at (lastDigits (i - at) rest)
-unfolding lastDigits
-filling-next out at i rest h =
-    let e : i - at ≡ suc ((i - 1) - at) = omega arith in
-    let p : i - 1 ≡ at + length (lastDigits ((i - 1) - at) (rest / 10)) = omega (arith, last-length ((i - 1) - at) (rest / 10)) in
-    rw e (ap (λ (x : ℕ). sets (set out x (48 + rest % 10)) at (lastDigits ((i - 1) - at) (rest / 10))) p ∙ sets-last out (lastDigits ((i - 1) - at) (rest / 10)) at (48 + rest % 10))
+-- what holds of the loop that fills, from the end: what is left to fill, put over what stands there, makes the whole
+pub record Filling (out₀ : List ℕ) (at end n : ℕ) (out : List ℕ) (i rest : ℕ) : Type 0 where
+  pub low : at ≤ i
+  pub high : i ≤ end
+  pub same : length out ≡ length out₀
+  pub makes : sets out at (lastDigits (i - at) rest) ≡ sets out₀ at (lastDigits (end - at) n)
+
+pub filling-first : (out : List ℕ) (at end n : ℕ) → at ≤ end → Filling out at end n out end n
+filling-first out at end n h = record { low = h; high = omega arith; same = refl; makes = refl }
+
+module _ {out₀ : List ℕ} {at end n : ℕ} {out : List ℕ} {i rest : ℕ} (f : Filling out₀ at end n out i rest) where
+  pub filling-next : at < i → Filling out₀ at end n (set out (i - 1) (48 + rest % 10)) (i - 1) (rest / 10)
+  unfolding lastDigits
+  filling-next h =
+      let e : i - at ≡ suc ((i - 1) - at) = omega arith in
+      let others : List ℕ = lastDigits ((i - 1) - at) (rest / 10) in
+      let p : i - 1 ≡ at + length others = omega (arith, last-length ((i - 1) - at) (rest / 10)) in
+      let put : sets (set out (i - 1) (48 + rest % 10)) at others ≡ sets out at (lastDigits (i - at) rest) =
+      rw e (ap (λ (x : ℕ). sets (set out x (48 + rest % 10)) at others) p ∙ sets-last out others at (48 + rest % 10)) in
+      record { low = omega arith; high = omega (arith, f .high); same = simp length-set (f .same); makes = put ∙ f .makes }
+
+  pub filling-last : i ≤ at → out ≡ sets out₀ at (lastDigits (end - at) n)
+  unfolding lastDigits
+  filling-last h = let e : i - at ≡ 0 = omega arith in rw e at (f .makes)
 
 pub four-bytes : (l : List ℕ) (at a b c d : ℕ) → Wrote l at (a ∷ b ∷ c ∷ d ∷ []) (set (set (set (set l at a) (at + 1) b) (at + 2) c) (at + 3) d) (at + 4)
 four-bytes l at a b c d =

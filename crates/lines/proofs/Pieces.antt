@@ -1,22 +1,20 @@
 -- Input worked piece by piece prints what the whole input prints: a line taken from the front, an unfinished line closed by a newline at the
 -- end of input, and an overlong one cut short all leave what is printed as it is.
 use mathlib.Core.Path.{_≡_, refl, sym, ap, _∙_}
-use mathlib.Core.Bool.{Bool, true, false}
 use mathlib.Core.List.{List, [], _∷_, _++_, append-nil}
 use mathlib.Core.Logic.{⊎-elim}
-use Prim.Native.Nat.{ℕ, zero, suc, _+_, _-_, _≤_, _<_}
+use Prim.Native.Nat.{ℕ, zero, suc, _≤_, _<_}
 use native.Mathlib.Omega.{arith}
-use lib.Dec.{eqb}
 use lib.ListN.{length, take, drop, length-append, length-take}
 use lib.Seq.{take-all}
 use Rattle.laws.proofs.Tests.{le-or-lt}
 use Rattle.share.specs.declared.Table.{Table}
 use Rattle.lines.specs.declared.Line.the-variants.{Broken}
-use Rattle.lines.specs.Cut.{newline, part, cutAt, nextBefore, before, linesOf}
+use Rattle.lines.specs.Cut.{newline, cutAt, before, linesOf}
 use Rattle.lines.specs.Grammar.{readLine}
-use Rattle.lines.specs.Print.{printed, after, answers, printsFrom, prints}
+use Rattle.lines.specs.Print.{printed, after, answers, printsFrom}
 use Rattle.lines.specs.Pieces.{Unfinished}
-use Rattle.lines.proofs.Cutting.{cut-more}
+use Rattle.lines.proofs.Cutting.{prepend, unmarked-tail, cut-unmarked, cut-whole, cut-more}
 use Rattle.lines.proofs.Fields.{overlong}
 
 module _ (line : ℕ) (t : Table) where
@@ -27,48 +25,19 @@ module _ (line : ℕ) (t : Table) where
   unfolding printsFrom answers
   first-line l r h = rw (cut-more newline [] l r h)
 
--- bytes with no newline stand in front of the first line of what follows
-abbrev prepend : List ℕ → List (List ℕ) → List (List ℕ)
-prepend p [] = p ∷ []
-prepend p (l ∷ ls) = (p ++ l) ∷ ls
-
-one-more : (b : ℕ) (p : List ℕ) (ls : List (List ℕ)) → part false b (prepend p ls) ≡ prepend (b ∷ p) ls
-one-more b p [] = refl
-one-more b p (l ∷ ls) = refl
-
-lone : (b : ℕ) (ls : List (List ℕ)) → part false b ls ≡ prepend (b ∷ []) ls
-lone b [] = refl
-lone b (l ∷ ls) = refl
-
-unfinished-tail : (b : ℕ) (p : List ℕ) → Unfinished (b ∷ p) → (eqb b newline ≡ false) × Unfinished p
-unfolding before
-unfinished-tail b p u = by (eqb b newline) u
-  where
-    by : (t : Bool) → length (nextBefore t b (before newline p)) ≡ suc (length p) → (t ≡ false) × Unfinished p
-    by true u = absurd (omega arith)
-    by false u = (refl, omega arith)
-
-pub lines-unfinished : (b : ℕ) (p r : List ℕ) → Unfinished (b ∷ p) → linesOf ((b ∷ p) ++ r) ≡ prepend (b ∷ p) (linesOf r)
-unfolding cutAt
-lines-unfinished b [] r u = rw (unfinished-tail b [] u .0) (lone b (linesOf r))
-lines-unfinished b (c ∷ p) r u =
-    let v = unfinished-tail b (c ∷ p) u in
-    rw (v .0, lines-unfinished c p r (v .1)) (one-more b (c ∷ p) (linesOf r))
-
 -- "a last line without newline counts": at the end of input a newline closes it
 pub closed : (line : ℕ) (t : Table) (l : List ℕ) → 0 < length l → Unfinished l → printsFrom line t (l ++ (newline ∷ [])) ≡ printsFrom line t l
 unfolding printsFrom cutAt
 closed line t [] h u = absurd (omega arith)
 closed line t (b ∷ p) h u =
-    let open-line : linesOf (b ∷ p) ≡ (b ∷ p) ∷ [] = sym (ap linesOf (append-nil (b ∷ p))) ∙ lines-unfinished b p [] u in
-    ap (answers line t) (lines-unfinished b p (newline ∷ []) u ∙ rw append-nil (sym open-line))
+    ap (answers line t) (cut-unmarked newline [] b p (newline ∷ []) u ∙ rw append-nil (sym (cut-whole newline [] b p u)))
 
 pub unfinished-take : (n : ℕ) (l : List ℕ) → Unfinished l → Unfinished (take n l)
 unfolding before
 unfinished-take zero l u = refl
 unfinished-take (suc n) [] u = refl
 unfinished-take (suc n) (b ∷ l) u =
-    let v = unfinished-tail b l u in
+    let v = unmarked-tail newline b l u in
     rw (v .0) (ap suc (unfinished-take n l (v .1)))
 
 -- an overlong line is answered 15 whatever its bytes
@@ -76,7 +45,7 @@ overlong-first : (line : ℕ) (t : Table) (p q r : List ℕ) → Unfinished p �
 unfolding printsFrom answers
 overlong-first line t [] q r u v h k = absurd (omega arith)
 overlong-first line t (b ∷ p) [] r u v h k = absurd (omega arith)
-overlong-first line t (b ∷ p) (c ∷ q) r u v h k = rw (lines-unfinished b p r u, lines-unfinished c q r v) (by (linesOf r))
+overlong-first line t (b ∷ p) (c ∷ q) r u v h k = rw (cut-unmarked newline [] b p r u, cut-unmarked newline [] c q r v) (by (linesOf r))
   where
     long : (x l : List ℕ) → 40 < length x → readLine (x ++ l) ≡ Broken
     long x l h = overlong (x ++ l) (omega (arith, length-append x l))

@@ -1,10 +1,10 @@
 -- Document 01's lines and their events, both ways: an event with numbers of up to five digits, written as a line, reads back as that event;
 -- and a line that reads as an event is the line which that event is written as. So no other bytes are an event.
-use mathlib.Core.Path.{_≡_, refl, sym, _∙_}
-use mathlib.Core.Bool.{Bool, true, false, cond, not}
-use mathlib.Core.List.{List, [], _∷_, _++_}
+use mathlib.Core.Path.{_≡_, refl, sym, ap, _∙_}
+use mathlib.Core.Bool.{Bool, true, false, cond}
+use mathlib.Core.List.{List, [], _∷_, _++_, append-nil}
 use mathlib.Core.Option.{Option, none, some}
-use Prim.Native.Nat.{ℕ, _+_, _*_, _≤_, _<_}
+use Prim.Native.Nat.{ℕ, suc, _*_, _≤_, _<_}
 use native.Mathlib.Omega.{arith}
 use lib.Dec.{leb, eqb}
 use lib.ListN.{length, length-append}
@@ -12,50 +12,35 @@ use borrow.Author.Tests.{le-leb, leb-true, eqb-true, eqb-false, ne-eqb}
 use Rattle.share.specs.declared.Event.{Event}
 use Rattle.share.specs.declared.Event.the-variants.{Fresh, Join, Leave, Reweight, Length, Grant, Return}
 use Rattle.laws.specs.Lists.{all}
-use Rattle.laws.proofs.Tests.{clash, and-left, and-right, and-both}
+use Rattle.laws.proofs.Tests.{and-left, and-right}
 use Rattle.lines.specs.declared.Line.the-variants.{Known, Broken}
 use Rattle.lines.specs.Cut.{space, part, cutAt, before, fieldsOf}
 use Rattle.lines.specs.Decimal.{digit, decimal, digits}
 use Rattle.lines.specs.Grammar.{letterS, letterJ, letterL, letterW, letterR, letterG, letterU, returnOf, eventOf, both, numbers, eventIf, eventNamed, eventIn, readLine, spaced, mark, lineOf, Small, Written}
-use Rattle.lines.proofs.Cutting.{cut-first}
+use Rattle.lines.proofs.Cutting.{Unmarked, cut-unmarked, cut-first}
+use Rattle.lines.proofs.Decimals.{digit-low}
 use Rattle.lines.proofs.Decimal.{all-digits, few-digits, decimal-digits, decimal-only}
 
--- bytes among which there is no space
-abbrev clear : List ℕ → Bool
-clear = all (λ (b : ℕ). not (eqb b space))
-
-digits-clear : (f : List ℕ) → all digit f ≡ true → clear f ≡ true
+-- no digit is a space
+digits-clear : (f : List ℕ) → all digit f ≡ true → Unmarked space f
+unfolding before
 digits-clear [] h = refl
 digits-clear (b ∷ f) h =
-    let low : 48 ≤ b = leb-true 48 b (and-left (leb 48 b) (leb b 57) (and-left (digit b) (all digit f) h)) in
-    let other : not (eqb b space) ≡ true = rw (ne-eqb b space (λ e. omega arith)) in
-    and-both other (digits-clear f (and-right (digit b) (all digit f) h))
+    let low : 48 ≤ b = digit-low b (and-left (digit b) (all digit f) h) in
+    rw (ne-eqb b space (λ e. omega arith)) (ap suc (digits-clear f (and-right (digit b) (all digit f) h)))
 
-cut-clear : (f r : List ℕ) → clear f ≡ true → fieldsOf (f ++ (space ∷ r)) ≡ f ∷ fieldsOf r
-unfolding cutAt
-cut-clear [] r h = refl
-cut-clear (b ∷ f) r h = by (eqb b space) (and-left (not (eqb b space)) (clear f) h) (cut-clear f r (and-right (not (eqb b space)) (clear f) h))
-  where
-    by : (t : Bool) → not t ≡ true → fieldsOf (f ++ (space ∷ r)) ≡ f ∷ fieldsOf r → part t b (fieldsOf (f ++ (space ∷ r))) ≡ (b ∷ f) ∷ fieldsOf r
-    by true n ih = absurd (clash n refl)
-    by false n ih = rw ih
-
-last-clear : (f : List ℕ) → clear f ≡ true → fieldsOf (f ++ []) ≡ f ∷ []
-unfolding cutAt
-last-clear [] h = refl
-last-clear (b ∷ f) h = by (eqb b space) (and-left (not (eqb b space)) (clear f) h) (last-clear f (and-right (not (eqb b space)) (clear f) h))
-  where
-    by : (t : Bool) → not t ≡ true → fieldsOf (f ++ []) ≡ f ∷ [] → part t b (fieldsOf (f ++ [])) ≡ (b ∷ f) ∷ []
-    by true n ih = absurd (clash n refl)
-    by false n ih = rw ih
+cut-clear : (f r : List ℕ) (fs : List (List ℕ)) → Unmarked space f → fieldsOf r ≡ [] ∷ fs → fieldsOf (f ++ r) ≡ f ∷ fs
+cut-clear [] r fs u e = e
+cut-clear (b ∷ f) r fs u e = cut-unmarked space ([] ∷ []) b f r u ∙ rw (e, append-nil)
 
 abbrev written : List ℕ → List (List ℕ)
 written [] = []
 written (n ∷ ns) = digits n ∷ written ns
 
-cut-spaced : (f : List ℕ) (ns : List ℕ) → clear f ≡ true → fieldsOf (f ++ spaced ns) ≡ f ∷ written ns
-cut-spaced f [] h = last-clear f h
-cut-spaced f (n ∷ ns) h = cut-clear f (digits n ++ spaced ns) h ∙ rw (cut-spaced (digits n) ns (digits-clear (digits n) (all-digits 19 n)))
+cut-spaced : (f : List ℕ) (ns : List ℕ) → Unmarked space f → fieldsOf (f ++ spaced ns) ≡ f ∷ written ns
+unfolding cutAt
+cut-spaced f [] h = cut-clear f [] [] h refl
+cut-spaced f (n ∷ ns) h = cut-clear f (spaced (n ∷ ns)) (written (n ∷ ns)) h (rw (cut-spaced (digits n) ns (digits-clear (digits n) (all-digits 19 n))))
 
 abbrev AllSmall : List ℕ → Type 0
 AllSmall [] = Unit {0}
@@ -70,14 +55,14 @@ spaced-length : (ns : List ℕ) → AllSmall ns → length (spaced ns) ≤ 6 * l
 spaced-length [] h = omega arith
 spaced-length (n ∷ ns) h = omega (arith, length-append (digits n) (spaced ns), few-digits n (h .0), spaced-length ns (h .1))
 
-reads : (k : ℕ) (ns : List ℕ) → not (eqb k space) ≡ true → AllSmall ns → length ns ≤ 3 → readLine (k ∷ spaced ns) ≡ eventOf k ns
+reads : (k : ℕ) (ns : List ℕ) → Unmarked space (k ∷ []) → AllSmall ns → length ns ≤ 3 → readLine (k ∷ spaced ns) ≡ eventOf k ns
 unfolding readLine eventIn eventNamed eventIf
 reads k ns c h l =
     let short : length (k ∷ spaced ns) ≤ 40 = omega (arith, spaced-length ns h) in
-    rw (le-leb (length (k ∷ spaced ns)) 40 short, cut-spaced (k ∷ []) ns (and-both c refl), numbers-written ns h)
+    rw (le-leb (length (k ∷ spaced ns)) 40 short, cut-spaced (k ∷ []) ns c, numbers-written ns h)
 
 pub reads-back : (e : Event) → Written e → readLine (lineOf e) ≡ Known e
-unfolding lineOf Written eventOf
+unfolding lineOf Written eventOf before
 reads-back (Fresh limit) h = reads letterS (limit ∷ []) refl (h, tt) (omega arith)
 reads-back (Join queue weight length) h = reads letterJ (queue ∷ weight ∷ length ∷ []) refl (h .0, (h .1, (h .2, tt))) (omega arith)
 reads-back (Leave queue) h = reads letterL (queue ∷ []) refl (h, tt) (omega arith)

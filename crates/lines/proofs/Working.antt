@@ -1,5 +1,5 @@
 -- What holds of the loop over the lines of a piece: whatever comes after it, the piece prints what is written and then what is left of it.
-use mathlib.Core.Path.{_≡_, refl, _∙_}
+use mathlib.Core.Path.{_≡_, refl, ap, _∙_}
 use mathlib.Core.Bool.{true, false}
 use mathlib.Core.List.{List, _++_, append-assoc}
 use mathlib.Core.Logic.{_⊎_}
@@ -117,4 +117,4 @@ module _ {line : ℕ} {t : Table} {input out₀ out : List ℕ} {u : Table} {nex
   at-last-line e = omega (arith, length-drop i input, w .within)
 
   pub at-end-of-piece : length input ≤ i → Unfinished (drop i input)
-  at-end-of-piece h = omega (arith, length-drop i input, found-nowhere newline input i (omega (arith, w .within)), w .within)
+  at-end-of-piece h = omega (arith, length-drop i input, ap length (found-nowhere newline input i (omega (arith, w .within))), w .within)

@@ -1,30 +1,27 @@
--- `line_end` looks from place to place. The invariant: from here the newline stands where it stood from the start.
-use mathlib.Core.Path.{_≡_, refl}
-use Prim.Native.Nat.{_+_, _-_, _≤_}
+-- `line_end` looks from place to place. The invariant is `Seeking`: from here the newline stands where it stood from the start. The measure
+-- is what is left of the bytes.
+use Prim.Native.Nat.{_-_}
 use native.Mathlib.Omega.{arith}
-use lib.ListN.{length, drop}
-use denote.Ref.{now}
-use Rattle.lines.specs.Cut.{newline, before}
-use Rattle.lines.proofs.Cutting.{found-here, found-later, found-nowhere}
+use lib.ListN.{length}
+use Rattle.lines.specs.Cut.{newline}
+use Rattle.lines.proofs.Cutting.{Seeking, seeking-first, seeking-next, sought-here, sought-nowhere}
 use Rattle.lines.proofs.line_end.Statement.{statement}
 use Rattle.lines.proofs.line_end.Tie as tie
 
 abbrev Inv-loop : tie.InvT-loop
-Inv-loop s from i₀ i = (from ≤ i) × (i ≤ length s) × (i + length (before newline (drop i s)) ≡ from + length (before newline (drop from s)))
+Inv-loop s from i₀ i = Seeking newline s from i
 
 abbrev μ-loop : tie.MeasureT-loop
 μ-loop s from i₀ i = length s - i
 
 loop-holds : tie.Need-loop-holds Inv-loop μ-loop
-loop-holds c = (omega arith, c .pre, refl)
+loop-holds c = seeking-first _ _ _ (c .pre)
 
 shared-slice-read-if1 : tie.Need-shared-slice-read-if1 Inv-loop μ-loop
 shared-slice-read-if1 c = omega arith
 
 returns : tie.Need-returns Inv-loop μ-loop
-returns c =
-    let k = c .before .before .before in
-    omega (arith, k .loop .inv .2, found-here newline (now (k .before .args .s)) (k .loop .i) (c .before .before .loop-test .taken) (c .if1 .taken))
+returns c = let n = c .before .before in sought-here (n .before .loop .inv) (n .loop-test .taken) (c .if1 .taken)
 
 add-i : tie.Need-add-i Inv-loop μ-loop
 add-i c = omega arith
@@ -33,14 +30,10 @@ loop-less : tie.Need-loop-less Inv-loop μ-loop
 loop-less c = omega arith
 
 loop-again : tie.Need-loop-again Inv-loop μ-loop
-loop-again c =
-    let k = c .before .before .before in
-    (omega arith, omega arith, omega (arith, k .loop .inv .2, found-later newline (now (k .before .args .s)) (k .loop .i) (c .before .before .loop-test .taken) (c .if1 .left)))
+loop-again c = let n = c .before .before in seeking-next (n .before .loop .inv) (n .loop-test .taken) (c .if1 .left)
 
 returns-2 : tie.Need-returns-2 Inv-loop μ-loop
-returns-2 c =
-    let k = c .before in
-    omega (arith, k .loop .inv .2, found-nowhere newline (now (k .before .args .s)) (k .loop .i) (omega arith))
+returns-2 c = sought-nowhere (c .before .loop .inv) (c .loop-test .left)
 
 pub line-end-spec : {M : Type 1} → statement M
 line-end-spec =

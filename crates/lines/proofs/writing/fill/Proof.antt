@@ -1,23 +1,18 @@
--- `fill` goes from the end to the start. The invariant: what is left to fill, put over what stands there, makes the whole.
-use mathlib.Core.Path.{_≡_, refl, _∙_}
-use Prim.Native.Nat.{_-_, _≤_}
+-- `fill` goes from the end to the start. The invariant is `Filling`: what is left to fill, put over what stands there, makes the whole. The
+-- measure is the place.
 use native.Mathlib.Omega.{arith}
-use lib.ListN.{length, length-set}
-use lib.Seq.{sets}
-use Rattle.lines.specs.Places.{lastDigits}
-use Rattle.lines.proofs.Digits.{filling-next}
+use Rattle.lines.proofs.Digits.{Filling, filling-first, filling-next, filling-last}
 use Rattle.lines.proofs.writing.fill.Statement.{statement}
 use Rattle.lines.proofs.writing.fill.Tie as tie
 
 abbrev Inv-loop : tie.InvT-loop
-Inv-loop out₀ at end n i₀ rest₀ out i rest =
-    (at ≤ i) × (i ≤ end) × (length out ≡ length out₀) × (sets out at (lastDigits (i - at) rest) ≡ sets out₀ at (lastDigits (end - at) n))
+Inv-loop out₀ at end n i₀ rest₀ out i rest = Filling out₀ at end n out i rest
 
 abbrev μ-loop : tie.MeasureT-loop
 μ-loop out₀ at end n i₀ rest₀ out i rest = i
 
 loop-holds : tie.Need-loop-holds Inv-loop μ-loop
-loop-holds c = (omega arith, omega arith, refl, refl)
+loop-holds c = filling-first _ _ _ _ (c .pre .0)
 
 sub-i : tie.Need-sub-i Inv-loop μ-loop
 sub-i c = omega arith
@@ -35,19 +30,13 @@ loop-less : tie.Need-loop-less Inv-loop μ-loop
 loop-less c = omega arith
 
 loop-again : tie.Need-loop-again Inv-loop μ-loop
-loop-again c =
-    let k = c .before in
-    (omega arith, omega arith, simp length-set (k .loop .inv .2), filling-next (k .loop .out) (k .before .args .at) (k .loop .i) (k .loop .rest) (c .loop-test .taken) ∙ k .loop .inv .3)
+loop-again c = filling-next (c .before .loop .inv) (c .loop-test .taken)
 
 same-length : tie.Need-same-length Inv-loop μ-loop
-same-length c = c .before .loop .inv .2
+same-length c = c .before .loop .inv .same
 
 returns : tie.Need-returns Inv-loop μ-loop
-unfolding lastDigits
-returns c =
-    let k = c .before in
-    let e : k .loop .i - k .before .args .at ≡ 0 = omega arith in
-    rw e at (k .loop .inv .3)
+returns c = filling-last (c .before .loop .inv) (c .loop-test .left)
 
 pub fill-spec : {M : Type 1} → statement M
 fill-spec =

@@ -20,10 +20,10 @@ loop-less : tie.Need-loop-less Inv-loop μ-loop
 loop-less c = omega arith
 
 loop-again : tie.Need-loop-again Inv-loop μ-loop
-loop-again c = counting-next _ _ _ (c .before .loop .inv) (c .loop-test .taken)
+loop-again c = counting-next (c .before .loop .inv) (c .loop-test .taken)
 
 returns : tie.Need-returns Inv-loop μ-loop
-returns c = counting-last _ _ _ (c .before .loop .inv) (c .loop-test .left)
+returns c = counting-last (c .before .loop .inv) (c .loop-test .left)
 
 pub places-spec : {M : Type 1} → statement M
 places-spec = tie.close (tie.spec Inv-loop μ-loop loop-holds add-k loop-less loop-again returns)
