@@ -149,8 +149,8 @@ digits-then l at n then =
 pub digits-most : (n : ℕ) → length (digits n) ≤ 20
 digits-most n = omega (arith, digits-length n, places-most 19 n)
 
-pub put-whole : (l m : List ℕ) (at n then p : ℕ) → p ≡ places n → m ≡ sets l at (lastDigits (at + p - at) n) → Wrote l at (digits n ++ (then ∷ [])) (set m (at + p) then) (at + p + 1)
-put-whole l m at n then p e f =
+pub put-whole : (l : List ℕ) (at n then : ℕ) {p : ℕ} → p ≡ places n → {m : List ℕ} → m ≡ sets l at (lastDigits (at + p - at) n) → Wrote l at (digits n ++ (then ∷ [])) (set m (at + p) then) (at + p + 1)
+put-whole l at n then e f =
     let q : at + places n - at ≡ places n = omega arith in
     rw (f, e, q) (digits-then l at n then)
 
@@ -167,45 +167,51 @@ ended-most n then = omega (arith, length-append (digits n) (then ∷ []), digits
 pub both-most : (xs ys : List ℕ) (a b : ℕ) → length xs ≤ a → length ys ≤ b → length (xs ++ ys) ≤ a + b
 both-most xs ys a b h k = omega (arith, length-append xs ys)
 
-abbrev pub front : ℕ → ℕ → List ℕ
-front line answer = ended line 32 ++ ended answer 32
-
-pub front-most : (line answer : ℕ) → length (front line answer) ≤ 42
-front-most line answer = both-most (ended line 32) (ended answer 32) 21 21 (ended-most line 32) (ended-most answer 32)
-
-pub shown-granted : (line : ℕ) (a : Shown) (sum total : ℕ) → a .granted ≡ true
-    → ((front line (a .answer) ++ ended (a .queue) 32) ++ ended (a .slice) 32) ++ sums sum total ≡ shownLine line a sum total
-unfolding shownLine answerLine sums
-shown-granted line a sum total g = rw g (simp append-assoc)
-
-pub shown-other : (line : ℕ) (a : Shown) (sum total : ℕ) → a .granted ≡ false
-    → (front line (a .answer) ++ dashes) ++ sums sum total ≡ shownLine line a sum total
-unfolding shownLine answerLine sums
-shown-other line a sum total g = rw g (simp append-assoc)
-
 pub sums-most : (sum total : ℕ) → length (sums sum total) ≤ 42
 unfolding sums
 sums-most sum total = both-most (ended sum 32) (ended total 10) 21 21 (ended-most sum 32) (ended-most total 10)
 
--- six numbers of twenty digits, and a byte after each
-pub shown-most : (line : ℕ) (a : Shown) (sum total : ℕ) → length (shownLine line a sum total) ≤ 126
-shown-most line a sum total =
-    ⊎-elim (λ (g : a .granted ≡ true). rw (← shown-granted line a sum total g) granted-most)
-    (λ (g : a .granted ≡ false). rw (← shown-other line a sum total g) other-most) (either (a .granted))
-  where
-    granted-most : length (((front line (a .answer) ++ ended (a .queue) 32) ++ ended (a .slice) 32) ++ sums sum total) ≤ 126
-    granted-most =
-        both-most ((front line (a .answer) ++ ended (a .queue) 32) ++ ended (a .slice) 32) (sums sum total) 84 42
-        (both-most (front line (a .answer) ++ ended (a .queue) 32) (ended (a .slice) 32) 63 21
-        (both-most (front line (a .answer)) (ended (a .queue) 32) 42 21 (front-most line (a .answer)) (ended-most (a .queue) 32))
-        (ended-most (a .slice) 32)) (sums-most sum total)
+-- the line in its parts, as the writer puts them: two numbers, then the queue and the slice of a grant or dashes, then the sums
+module _ (line : ℕ) (a : Shown) where
+  abbrev pub front : List ℕ
+  front = ended line 32 ++ ended (a .answer) 32
 
-    other-most : length ((front line (a .answer) ++ dashes) ++ sums sum total) ≤ 126
-    other-most =
-        let h : length ((front line (a .answer) ++ dashes) ++ sums sum total) ≤ 46 + 42 =
-        both-most (front line (a .answer) ++ dashes) (sums sum total) 46 42
-        (both-most (front line (a .answer)) dashes 42 4 (front-most line (a .answer)) (omega arith)) (sums-most sum total) in
-        omega arith
+  abbrev pub withQueue : List ℕ
+  withQueue = front ++ ended (a .queue) 32
+
+  abbrev pub withSlice : List ℕ
+  withSlice = withQueue ++ ended (a .slice) 32
+
+  abbrev pub withDashes : List ℕ
+  withDashes = front ++ dashes
+
+  pub front-most : length front ≤ 42
+  front-most = both-most (ended line 32) (ended (a .answer) 32) 21 21 (ended-most line 32) (ended-most (a .answer) 32)
+
+  pub queue-most : length withQueue ≤ 63
+  queue-most = both-most front (ended (a .queue) 32) 42 21 front-most (ended-most (a .queue) 32)
+
+  pub slice-most : length withSlice ≤ 84
+  slice-most = both-most withQueue (ended (a .slice) 32) 63 21 queue-most (ended-most (a .slice) 32)
+
+  pub dashes-most : length withDashes ≤ 46
+  dashes-most = both-most front dashes 42 4 front-most (omega arith)
+
+  module _ (sum total : ℕ) where
+    pub shown-granted : a .granted ≡ true → withSlice ++ sums sum total ≡ shownLine line a sum total
+    unfolding shownLine answerLine sums
+    shown-granted g = rw g (simp append-assoc)
+
+    pub shown-other : a .granted ≡ false → withDashes ++ sums sum total ≡ shownLine line a sum total
+    unfolding shownLine answerLine sums
+    shown-other g = rw g (simp append-assoc)
+
+    -- six numbers of twenty digits, and a byte after each
+    pub shown-most : length (shownLine line a sum total) ≤ 126
+    shown-most =
+        ⊎-elim (λ (g : a .granted ≡ true). rw (← shown-granted g) (both-most withSlice (sums sum total) 84 42 slice-most (sums-most sum total)))
+        (λ (g : a .granted ≡ false). rw (← shown-other g) (omega (arith, both-most withDashes (sums sum total) 46 42 dashes-most (sums-most sum total))))
+        (either (a .granted))
 
 -- what stands in the buffer up to the next place
 pub wrote-take : {l m : List ℕ} {at p : ℕ} {xs : List ℕ} → Wrote l at xs m p → p ≤ length l → take p m ≡ take at l ++ xs

@@ -6,6 +6,14 @@ use borrow.Author.Needs.{needs}
 use Rattle.lines.proofs.close.Statement.{statement}
 use Rattle.lines.proofs.close.Tie as tie
 
+-- Something is held, and there is room after it.
+module _ (c : tie.Else2) where
+  abbrev tested : tie.After-table
+  tested = c .before .before
+
+  abbrev start : tie.Start
+  start = tested .before .before
+
 idle-requires : tie.Need-idle-requires
 idle-requires c κs = search needs
 
@@ -28,9 +36,7 @@ same-length : tie.Need-same-length
 same-length c = search needs
 
 returns-3 : tie.Need-returns-3
-returns-3 c =
-    let k = c .before .before .before .before in
-    closed-newline (k .args .state) (now (k .args .buf)) (c .before .if1 .left) (c .if2 .left)
+returns-3 c = closed-newline (start c .args .state) (now (start c .args .buf)) (c .before .if1 .left) (c .if2 .left)
 
 pub close-spec : {M : Type 1} → statement M
 close-spec =

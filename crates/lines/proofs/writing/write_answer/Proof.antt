@@ -1,116 +1,133 @@
--- `write_answer` puts the six parts one after the other; what stands after each is what stood before it and the part.
-use mathlib.Core.List.{_++_}
-use Prim.Native.Nat.{_≤_}
+-- `write_answer` puts the six parts one after the other; what stands after each is what stood before it and the part. The sections follow the
+-- code, and say what stands after each part.
+use mathlib.Core.List.{List}
+use Prim.Native.Nat.{ℕ, _+_, _≤_}
 use native.Mathlib.Omega.{arith}
 use lib.ListN.{length}
 use denote.Ref.{now}
-use Rattle.lines.specs.Print.{dashes}
+use Rattle.lines.specs.declared.writing.Shown.{Shown}
 use Rattle.lines.specs.Places.{Wrote}
-use Rattle.lines.proofs.Digits.{wrote-both, room-left, ended, ended-most, both-most, front, front-most, shown-granted, shown-other}
+use Rattle.lines.proofs.Digits.{wrote-both, room-left, ended-most, front, withQueue, withSlice, withDashes, front-most, queue-most, slice-most, dashes-most, shown-granted, shown-other}
 use borrow.Author.Needs.{needs}
 use Rattle.lines.proofs.writing.write_answer.Statement.{statement}
 use Rattle.lines.proofs.writing.write_answer.Tie as tie
 
--- what stands after the first two numbers, and after what was granted
-module _ (c : tie.After-put2) where
+-- these parts of the line were put from the start on
+module _ (k : tie.Start) (parts : ℕ → Shown → List ℕ) where
+  abbrev Put : List ℕ → ℕ → Type 0
+  Put out next = Wrote (now (k .args .out)) (k .args .at) (parts (k .args .line) (k .args .shown)) out next
+
+  -- they take at most so many bytes, so there is room for so many more
+  has-room : (most more : ℕ) → ((line : ℕ) (a : Shown) → length (parts line a) ≤ most) → most + more ≤ 126
+      → {out : List ℕ} {next : ℕ} → Put out next → next + more ≤ length out
+  has-room most more few fits w = room-left most more w (few (k .args .line) (k .args .shown)) (omega (arith, k .pre))
+
+-- The line's number is written.
+module _ (c : tie.After-slice-known2) where
+  abbrev first : tie.After-put
+  first = c .before .before
+
   abbrev start : tie.Start
-  start = c .before .before .before .before .before .before .before
+  start = first .before .before .before
 
-  fronted : Wrote (now (start .args .out)) (start .args .at) (front (start .args .line) (start .args .shown .answer)) (c .put2 .last .0) (c .put2 .result)
-  fronted = wrote-both (c .before .before .before .before .put .ensures) (c .put2 .ensures)
+-- The answer's number is.
+module _ (c : tie.After-slice-known3) where
+  abbrev second : tie.After-put2
+  second = c .before .before
 
-module _ (c : tie.After-put3) where
-  abbrev third : tie.After-put2
-  third = c .before .before .before .before .before
+  abbrev numbered : tie.After-slice-known2
+  numbered = second .before .before
 
-  abbrev a : tie.Start
-  a = start third
+  abbrev start₂ : tie.Start
+  start₂ = start numbered
 
-  queued : Wrote (now (a .args .out)) (a .args .at) (front (a .args .line) (a .args .shown .answer) ++ ended (a .args .shown .queue) 32) (c .put3 .last .0) (c .put3 .result)
-  queued = wrote-both (fronted third) (c .put3 .ensures)
+  fronted : Put start₂ front (second .put2 .last .0) (second .put2 .result)
+  fronted = wrote-both (first numbered .put .ensures) (second .put2 .ensures)
 
-  queued-most : length (front (a .args .line) (a .args .shown .answer) ++ ended (a .args .shown .queue) 32) ≤ 63
-  queued-most =
-      both-most (front (a .args .line) (a .args .shown .answer)) (ended (a .args .shown .queue) 32) 42 21
-      (front-most (a .args .line) (a .args .shown .answer)) (ended-most (a .args .shown .queue) 32)
+-- Of a grant the queue is.
+module _ (c : tie.After-slice-known4) where
+  abbrev third : tie.After-put3
+  third = c .before .before
 
-module _ (c : tie.After-put4) where
-  abbrev fourth : tie.After-put3
-  fourth = c .before .before .before .before
+  abbrev granted : tie.Then1
+  granted = third .before .before
 
-  abbrev b : tie.Start
-  b = a fourth
+  abbrev start₃ : tie.Start
+  start₃ = start₂ (granted .before)
 
-  sliced : Wrote (now (b .args .out)) (b .args .at)
-      ((front (b .args .line) (b .args .shown .answer) ++ ended (b .args .shown .queue) 32) ++ ended (b .args .shown .slice) 32) (c .put4 .last .0) (c .put4 .result)
-  sliced = wrote-both (queued fourth) (c .put4 .ensures)
+  queued : Put start₃ withQueue (third .put3 .last .0) (third .put3 .result)
+  queued = wrote-both (fronted (granted .before)) (third .put3 .ensures)
 
-  sliced-most : length ((front (b .args .line) (b .args .shown .answer) ++ ended (b .args .shown .queue) 32) ++ ended (b .args .shown .slice) 32) ≤ 84
-  sliced-most =
-      both-most (front (b .args .line) (b .args .shown .answer) ++ ended (b .args .shown .queue) 32) (ended (b .args .shown .slice) 32) 63 21
-      (queued-most fourth) (ended-most (b .args .shown .slice) 32)
+-- And the slice.
+module _ (c : tie.After-slice-known5) where
+  abbrev fourth : tie.After-put4
+  fourth = c .before .before
 
-module _ (c : tie.After-dashes) where
-  abbrev third₂ : tie.After-put2
-  third₂ = c .before .before .before .before .before
+  abbrev queue : tie.After-slice-known4
+  queue = fourth .before .before
 
-  abbrev d : tie.Start
-  d = start third₂
+  abbrev start₄ : tie.Start
+  start₄ = start₃ queue
 
-  dashed : Wrote (now (d .args .out)) (d .args .at) (front (d .args .line) (d .args .shown .answer) ++ dashes) (c .dashes .last .0) (c .dashes .result)
-  dashed = wrote-both (fronted third₂) (c .dashes .ensures)
+  sliced : Put start₄ withSlice (fourth .put4 .last .0) (fourth .put4 .result)
+  sliced = wrote-both (queued queue) (fourth .put4 .ensures)
 
-  dashed-most : length (front (d .args .line) (d .args .shown .answer) ++ dashes) ≤ 46
-  dashed-most = both-most (front (d .args .line) (d .args .shown .answer)) dashes 42 4 (front-most (d .args .line) (d .args .shown .answer)) (omega arith)
+-- Of any other answer the dashes are.
+module _ (c : tie.After-slice-known7) where
+  abbrev dashing : tie.After-dashes
+  dashing = c .before .before
+
+  abbrev other : tie.Else1
+  other = dashing .before .before
+
+  abbrev start₅ : tie.Start
+  start₅ = start₂ (other .before)
+
+  dashed : Put start₅ withDashes (dashing .dashes .last .0) (dashing .dashes .result)
+  dashed = wrote-both (fronted (other .before)) (dashing .dashes .ensures)
 
 put-requires : tie.Need-put-requires
 put-requires c κs = search needs
 
 put-requires-2 : tie.Need-put-requires-2
-put-requires-2 c κs = room-left 21 21 (c .before .before .before .put .ensures) (ended-most (c .before .before .before .before .before .before .args .line) 32) (omega (arith, c .before .before .before .before .before .before .pre))
+put-requires-2 c κs =
+    let k = c .before in
+    room-left 21 21 (first k .put .ensures) (ended-most (start k .args .line) 32) (omega (arith, start k .pre))
 
 put-requires-3 : tie.Need-put-requires-3
-put-requires-3 c κs =
-    let k = c .before .before .before .before in
-    room-left 42 21 (fronted k) (front-most _ _) (omega (arith, start k .pre))
+put-requires-3 c κs = let k = c .before .before in has-room (start₂ k) front 42 21 front-most (omega arith) (fronted k)
 
 put-requires-4 : tie.Need-put-requires-4
-put-requires-4 c κs =
-    let k = c .before .before .before in
-    room-left 63 21 (queued k) (queued-most k) (omega (arith, a k .pre))
+put-requires-4 c κs = let k = c .before in has-room (start₃ k) withQueue 63 21 queue-most (omega arith) (queued k)
 
 sums-requires : tie.Need-sums-requires
-sums-requires c κs =
-    let k = c .before .before .before in
-    room-left 84 42 (sliced k) (sliced-most k) (omega (arith, b k .pre))
+sums-requires c κs = let k = c .before in has-room (start₄ k) withSlice 84 42 slice-most (omega arith) (sliced k)
 
 same-length : tie.Need-same-length
 same-length c = search needs
 
 returns : tie.Need-returns
 returns c =
-    let k = c .before .before .before .before .before .before in
-    let t = b k .args in
-    rw (← shown-granted (t .line) (t .shown) (t .sum) (t .total) (fourth k .before .before .if1 .taken)) (wrote-both (sliced k) (c .before .before .sums .ensures))
+    let s = c .before .before in
+    let k = s .before .before in
+    let t = start₄ k .args in
+    rw (← shown-granted (t .line) (t .shown) (t .sum) (t .total) (granted (queue k) .if1 .taken)) (wrote-both (sliced k) (s .sums .ensures))
 
 dashes-requires : tie.Need-dashes-requires
-dashes-requires c κs =
-    let k = c .before .before .before .before in
-    room-left 42 4 (fronted k) (front-most _ _) (omega (arith, start k .pre))
+dashes-requires c κs = let k = c .before .before in has-room (start₂ k) front 42 4 front-most (omega arith) (fronted k)
 
 sums-requires-2 : tie.Need-sums-requires-2
-sums-requires-2 c κs =
-    let k = c .before .before .before in
-    room-left 46 42 (dashed k) (dashed-most k) (omega (arith, d k .pre))
+sums-requires-2 c κs = let k = c .before in has-room (start₅ k) withDashes 46 42 dashes-most (omega arith) (dashed k)
 
 same-length-2 : tie.Need-same-length-2
 same-length-2 c = search needs
 
 returns-2 : tie.Need-returns-2
 returns-2 c =
-    let k = c .before .before .before .before .before .before in
-    let t = d k .args in
-    rw (← shown-other (t .line) (t .shown) (t .sum) (t .total) (k .before .before .if1 .left)) (wrote-both (dashed k) (c .before .before .sums2 .ensures))
+    let s = c .before .before in
+    let k = s .before .before in
+    let t = start₅ k .args in
+    rw (← shown-other (t .line) (t .shown) (t .sum) (t .total) (other k .if1 .left)) (wrote-both (dashed k) (s .sums2 .ensures))
 
 pub write-answer-spec : {M : Type 1} → statement M
 write-answer-spec =
