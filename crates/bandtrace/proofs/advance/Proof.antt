@@ -1,9 +1,22 @@
 -- `advance` writes what the turn says was written, which lies within the buffer.
 use mathlib.Core.Path.{sym}
+use mathlib.Core.List.{List}
+use Prim.Native.Nat.{ℕ}
 use lib.Seq.{length-take-le}
 use borrow.Author.Needs.{needs}
 use Rattle.bandtrace.proofs.advance.Statement.{statement}
 use Rattle.bandtrace.proofs.advance.Tie as tie
+
+-- The turn is taken, and both buffers are back.
+module _ (c : tie.After-slice-known4) where
+  abbrev one-back : tie.After-slice-known3
+  one-back = c .before .before
+
+  abbrev turned : tie.After-turn
+  turned = one-back .before .before
+
+  abbrev out : List ℕ
+  out = turned .turn .last .1 .1 .0
 
 turn-requires : tie.Need-turn-requires
 turn-requires c κs = search needs
@@ -22,8 +35,8 @@ slice-reshare-prefix-write-all c = search needs
 
 slice-aggregate-write-all : tie.Need-slice-aggregate-write-all
 slice-aggregate-write-all c =
-    let t = c .before .before .before .before .before .before .turn in
-    sym (length-take-le (t .result .written) (t .last .1 .1 .0) (t .ensures .room))
+    let k = c .before .before in
+    sym (length-take-le (turned k .turn .result .written) (out k) (turned k .turn .ensures .room))
 
 write-all-requires : tie.Need-write-all-requires
 write-all-requires c κs = search needs
