@@ -2,20 +2,20 @@
 use mathlib.Core.Path.{_≡_, refl, sym, ap, _∙_}
 use mathlib.Core.Bool.{Bool, true, false, cond, not}
 use mathlib.Core.List.{List, [], _∷_, _++_, append-assoc, append-nil}
-use mathlib.Core.Option.{none, some}
+use mathlib.Core.Option.{some}
 use mathlib.Core.Logic.{⊎-elim}
 use Prim.Native.Nat.{ℕ, zero, suc, _+_, _-_, _*_, _/_, _%_, _^_, _≤_, _<_}
 use native.Mathlib.Nat.{add-zero, add-suc, suc-add, pow-suc}
 use native.Mathlib.Omega.{arith}
-use lib.Dec.{leb, ltb, eqb}
+use lib.Dec.{ltb, eqb}
 use lib.ListN.{length}
-use borrow.Author.Tests.{le-leb, leb-true, lt-ltb, le-ltb, ltb-true, ltb-false, eqb-false, ne-eqb, not-true}
+use borrow.Author.Tests.{le-leb, lt-ltb, le-ltb, ltb-true, ltb-false, eqb-false, ne-eqb, not-true}
 use Rattle.laws.specs.Lists.{all}
-use Rattle.laws.proofs.Tests.{clash, le-or-lt, and-left, and-right, and-both, every-each, each-every, Each}
-use Rattle.lines.specs.Decimal.{digit, noLeadingZero, valueFrom, isDecimal, decimal, digitsIn, digits}
+use Rattle.laws.proofs.Tests.{clash, le-or-lt, and-left, and-right, and-both}
+use Rattle.lines.specs.Decimal.{digit, noLeadingZero, valueFrom, decimal, digitsIn, digits}
 use Rattle.lines.specs.Places.{placesIn}
 use Rattle.lines.proofs.Digits.{digits-length, places-one, places-more}
-use Rattle.lines.proofs.Decimals.{digit-low, digit-high, grows, five-digits}
+use Rattle.lines.proofs.Decimals.{EndsDecimal, decimal-contd, makes, makes-only, digit-low, digit-high, grows, five-digits}
 
 -- ten digits, and no more
 a-digit : (n : ℕ) → n < 10 → digit (48 + n) ≡ true
@@ -100,12 +100,11 @@ places-some (suc k) n = by (ltb n 10)
     by false = omega arith
 
 pub decimal-digits : (n : ℕ) → n < 100000 → decimal (digits n) ≡ some n
-unfolding decimal isDecimal
 decimal-digits n h =
     let one : 1 ≤ length (digits n) = rw (digits-length n) (places-some 19 n) in
-    rw (each-every (leb 1 (length (digits n)) ∷ leb (length (digits n)) 5 ∷ all digit (digits n) ∷ noLeadingZero (digits n) ∷ [])
-    (le-leb 1 (length (digits n)) one, (le-leb (length (digits n)) 5 (few-digits n h), (all-digits 19 n, (leads n (omega arith), tt)))))
-    (ap some (value-digits 19 n (omega arith)))
+    decimal-contd (digits n)
+    ∙ makes 0 0 (digits n) (record { some-digit = omega arith; few = omega (arith, few-digits n h); digits = all-digits 19 n; leads = leads n (omega arith) })
+    ∙ ap some (value-digits 19 n (omega arith))
 
 -- the other way: digits with no zero before them are those of the number that they make
 one-digit : (k n : ℕ) → n < 10 → digitsIn k n ≡ (48 + n) ∷ []
@@ -133,37 +132,26 @@ value-small j v (b ∷ g) h d =
     let high : b ≤ 57 = digit-high b (and-left (digit b) (all digit g) d) in
     rw (add-suc, ← suc-add) (value-small (suc j) (v * 10 + (b - 48)) g (grows j v (b - 48) h (omega arith)) (and-right (digit b) (all digit g) d))
 
-abbrev asked : List ℕ → List Bool
-asked l = leb 1 (length l) ∷ leb (length l) 5 ∷ all digit l ∷ noLeadingZero l ∷ []
-
 this-digit : (b k : ℕ) → digit b ≡ true → digitsIn k (0 + (b - 48)) ≡ b ∷ []
 this-digit b k d =
     let e : 48 + (0 + (b - 48)) ≡ b = omega (arith, digit-low b d) in
     rw (one-digit k (0 + (b - 48)) (omega (arith, digit-high b d)), e)
 
-spelled : (l : List ℕ) → Each (asked l) → l ≡ digits (valueFrom 0 l)
-spelled [] e = absurd (omega (arith, leb-true 1 0 (e .0)))
-spelled (b ∷ []) e = sym (this-digit b 19 (and-left (digit b) true (e .1 .1 .0)))
+spelled : (l : List ℕ) → EndsDecimal 0 0 l → l ≡ digits (valueFrom 0 l)
+spelled [] e = absurd (omega (arith, e .some-digit))
+spelled (b ∷ []) e = sym (this-digit b 19 (and-left (digit b) true (e .digits)))
 spelled (b ∷ c ∷ g) e =
-    let db : digit b ≡ true = and-left (digit b) (all digit (c ∷ g)) (e .1 .1 .0) in
-    let dg : all digit (c ∷ g) ≡ true = and-right (digit b) (all digit (c ∷ g)) (e .1 .1 .0) in
-    let short : suc (suc (length g)) ≤ 5 = leb-true (suc (suc (length g))) 5 (e .1 .0) in
+    let db : digit b ≡ true = and-left (digit b) (all digit (c ∷ g)) (e .digits) in
+    let dg : all digit (c ∷ g) ≡ true = and-right (digit b) (all digit (c ∷ g)) (e .digits) in
     let k : ℕ = 19 - suc (length g) in
-    let fuel : k + suc (length g) ≡ 19 = omega arith in
-    let some-value : 1 ≤ 0 + (b - 48) = omega (arith, digit-low b db, eqb-false b 48 (not-true (eqb b 48) (e .1 .1 .1 .0))) in
+    let fuel : k + suc (length g) ≡ 19 = omega (arith, e .few) in
+    let some-value : 1 ≤ 0 + (b - 48) = omega (arith, digit-low b db, eqb-false b 48 (not-true (eqb b 48) (e .leads))) in
     let whole : digitsIn (k + suc (length g)) (valueFrom 0 (b ∷ c ∷ g)) ≡ digitsIn k (0 + (b - 48)) ++ (c ∷ g) =
     digits-value k (0 + (b - 48)) (c ∷ g) some-value dg in
     sym (rw fuel at whole ∙ rw (this-digit b k db))
 
 pub decimal-only : (f : List ℕ) (v : ℕ) → decimal f ≡ some v → (f ≡ digits v) × (v < 100000)
-unfolding decimal isDecimal
-decimal-only f v h = by (isDecimal f) refl h
-  where
-    by : (t : Bool) → isDecimal f ≡ t → cond t (some (valueFrom 0 f)) none ≡ some v → (f ≡ digits v) × (v < 100000)
-    by true t e =
-        let w : valueFrom 0 f ≡ v = cc in
-        let each : Each (asked f) = every-each (asked f) t in
-        let short : length f ≤ 5 = leb-true (length f) 5 (each .1 .0) in
-        let below : valueFrom 0 f < 100000 = five-digits (0 + length f) (valueFrom 0 f) (value-small 0 0 f (omega arith) (each .1 .1 .0)) (omega arith) in
-        (rw w at (spelled f each), omega arith)
-    by false t e = let z : _≡_ {A = ℕ} 0 1 = cc in absurd (omega arith)
+decimal-only f v h =
+    let m = makes-only 0 0 f v (sym (decimal-contd f) ∙ h) in
+    let below : valueFrom 0 f < 100000 = five-digits (0 + length f) (valueFrom 0 f) (value-small 0 0 f (omega arith) (m .0 .digits)) (m .0 .few) in
+    (rw (m .1) at (spelled f (m .0)), rw (m .1) at below)

@@ -12,7 +12,7 @@ use lib.Dec.{leb, ltb, eqb}
 use lib.ListN.{length, drop, getD}
 use borrow.Author.Tests.{leb-true, le-leb, lt-leb, lt-ltb, ltb-true, eqb-true, eqb-false, eq-eqb, ne-eqb}
 use Rattle.laws.specs.Lists.{every, all}
-use Rattle.laws.proofs.Tests.{refuted, clash, and-left, and-right, and-both, every-each, each-every, Each}
+use Rattle.laws.proofs.Tests.{refuted, clash, and-left, and-right, and-both, every-each, each-every}
 use Rattle.lines.specs.Cut.{space, before}
 use Rattle.lines.specs.Decimal.{digit, noLeadingZero, valueFrom, isDecimal, decimal}
 use Rattle.lines.specs.Reading.{fieldAs, fieldAt, finishedAs, zeroLeads}
@@ -42,13 +42,38 @@ tests n v f = leb 1 (n + length f) ∷ leb (n + length f) 5 ∷ all digit f ∷ 
 pub contd : ℕ → ℕ → List ℕ → Option ℕ
 contd n v f = cond (every (tests n v f)) (some (valueFrom v f)) none
 
-pub start : (f : List ℕ) → decimal f ≡ contd 0 0 f
+pub decimal-contd : (f : List ℕ) → decimal f ≡ contd 0 0 f
 unfolding contd decimal isDecimal
-start f = rw zero-add
+decimal-contd f = rw zero-add
 
-refuse : (n v : ℕ) (f : List ℕ) → (Each (tests n v f) → ⊥) → contd n v f ≡ none
-unfolding contd
-refuse n v f h = rw (refuted (every (tests n v f)) (λ e. h (every-each (tests n v f) e)))
+-- what the tests say: after n digits that make v, these bytes end a decimal
+pub record EndsDecimal (n v : ℕ) (f : List ℕ) : Type 0 where
+  pub some-digit : 1 ≤ n + length f
+  pub few : n + length f ≤ 5
+  pub digits : all digit f ≡ true
+  pub leads : lead n v f ≡ true
+
+module _ (n v : ℕ) (f : List ℕ) where
+  tests-say : every (tests n v f) ≡ true → EndsDecimal n v f
+  tests-say e =
+      let t = every-each (tests n v f) e in
+      record { some-digit = leb-true 1 (n + length f) (t .0); few = leb-true (n + length f) 5 (t .1 .0); digits = t .1 .1 .0; leads = t .1 .1 .1 .0 }
+
+  pub makes : EndsDecimal n v f → contd n v f ≡ some (valueFrom v f)
+  unfolding contd
+  makes e = rw (each-every (tests n v f) (le-leb 1 (n + length f) (e .some-digit), (le-leb (n + length f) 5 (e .few), (e .digits, (e .leads, tt)))))
+
+  pub makes-only : (w : ℕ) → contd n v f ≡ some w → EndsDecimal n v f × (valueFrom v f ≡ w)
+  unfolding contd
+  makes-only w h = by (every (tests n v f)) refl h
+    where
+      by : (t : Bool) → every (tests n v f) ≡ t → cond t (some (valueFrom v f)) none ≡ some w → EndsDecimal n v f × (valueFrom v f ≡ w)
+      by true t h = (tests-say t, cc)
+      by false t h = let z : _≡_ {A = ℕ} 0 1 = cc in absurd (omega arith)
+
+  refuse : (EndsDecimal n v f → ⊥) → contd n v f ≡ none
+  unfolding contd
+  refuse h = rw (refuted (every (tests n v f)) (λ e. h (tests-say e)))
 
 nothing-yet : (v : ℕ) → contd 0 v [] ≡ none
 unfolding contd every
@@ -59,23 +84,19 @@ either-way true = refl
 either-way false = refl
 
 whole : (n v : ℕ) → 0 < n → n ≤ 5 → contd n v [] ≡ some v
-unfolding contd
 whole zero v h l = absurd (omega arith)
-whole (suc n) v h l =
-    rw (each-every (tests (suc n) v []) (le-leb 1 (suc n + 0) (omega arith), (le-leb (suc n + 0) 5 (omega arith), (refl, (either-way (eqb v 0), tt)))))
+whole (suc n) v h l = makes (suc n) v [] (record { some-digit = omega arith; few = omega arith; digits = refl; leads = either-way (eqb v 0) })
 
 no-digit : (n v b : ℕ) (f : List ℕ) → digit b ≡ false → contd n v (b ∷ f) ≡ none
-no-digit n v b f h = refuse n v (b ∷ f) (λ e. clash (and-left (digit b) (all digit f) (e .1 .1 .0)) h)
+no-digit n v b f h = refuse n v (b ∷ f) (λ e. clash (and-left (digit b) (all digit f) (e .digits)) h)
 
 too-long : (n v b : ℕ) (f : List ℕ) → n ≡ 5 → contd n v (b ∷ f) ≡ none
-too-long n v b f h = refuse n v (b ∷ f) (λ e. omega (arith, leb-true (n + suc (length f)) 5 (e .1 .0)))
+too-long n v b f h = refuse n v (b ∷ f) (λ e. omega (arith, e .few))
 
 after-zero : (n v b : ℕ) (f : List ℕ) → zeroLeads v n ≡ true → contd n v (b ∷ f) ≡ none
 unfolding zeroLeads
 after-zero zero v b f h = absurd (omega (arith, ltb-true 0 0 (and-left (ltb 0 0) (eqb v 0) h)))
-after-zero (suc n) v b f h =
-    refuse (suc n) v (b ∷ f)
-    (λ e. clash (e .1 .1 .1 .0) (rw (and-right (ltb 0 (suc n)) (eqb v 0) h) refl))
+after-zero (suc n) v b f h = refuse (suc n) v (b ∷ f) (λ e. clash (e .leads) (rw (and-right (ltb 0 (suc n)) (eqb v 0) h) refl))
 
 lead-next : (n v b : ℕ) (f : List ℕ) → (n ≡ 0 → v ≡ 0) → 48 ≤ b → zeroLeads v n ≡ false → lead n v (b ∷ f) ≡ lead (suc n) (v * 10 + (b - 48)) f
 unfolding zeroLeads
@@ -93,8 +114,7 @@ lead-next (suc n) v b f z h q = by (eqb v 0) refl
 
 next : (n v b : ℕ) (f : List ℕ) → (n ≡ 0 → v ≡ 0) → digit b ≡ true → zeroLeads v n ≡ false → contd n v (b ∷ f) ≡ contd (suc n) (v * 10 + (b - 48)) f
 unfolding contd
-next n v b f z h q =
-    rw (lead-next n v b f z (digit-low b h) q, h, add-suc, ← suc-add)
+next n v b f z h q = rw (lead-next n v b f z (digit-low b h) q, h, add-suc, ← suc-add)
 
 -- the field as it stands at place i, after the digits from place `at` on made v
 pub goOn : List ℕ → ℕ → ℕ → ℕ → Field
@@ -120,7 +140,7 @@ pub reached-first : (s : List ℕ) (at : ℕ) → at ≤ length s → Reached s 
 unfolding fieldAt goOn
 reached-first s at h =
     let none-yet : at - at ≡ 0 = omega arith in
-    record { low = omega arith; high = h; few = omega arith; none-made = λ e. refl; small = rw none-yet (omega arith); decides = rw (start, none-yet) }
+    record { low = omega arith; high = h; few = omega arith; none-made = λ e. refl; small = rw none-yet (omega arith); decides = rw (decimal-contd, none-yet) }
 
 module _ {s : List ℕ} {at v i : ℕ} (r : Reached s at v i) where
   pub below-six-digits : v < 100000

@@ -149,7 +149,8 @@ digits-then l at n then =
 pub digits-most : (n : ℕ) → length (digits n) ≤ 20
 digits-most n = omega (arith, digits-length n, places-most 19 n)
 
-pub put-whole : (l : List ℕ) (at n then : ℕ) {p : ℕ} → p ≡ places n → {m : List ℕ} → m ≡ sets l at (lastDigits (at + p - at) n) → Wrote l at (digits n ++ (then ∷ [])) (set m (at + p) then) (at + p + 1)
+pub put-whole : (l : List ℕ) (at n then : ℕ) {p : ℕ} → p ≡ places n → {m : List ℕ} → m ≡ sets l at (lastDigits (at + p - at) n)
+    → Wrote l at (digits n ++ (then ∷ [])) (set m (at + p) then) (at + p + 1)
 put-whole l at n then e f =
     let q : at + places n - at ≡ places n = omega arith in
     rw (f, e, q) (digits-then l at n then)

@@ -115,7 +115,8 @@ module _ (s : List ℕ) (at : ℕ) where
       let whole : length here ≡ length (drop at s) = omega (arith, found f .1, length-drop at s) in
       rw (cut-last space (drop at s) whole, found f .0)
 
-  pub field-more : {v e : ℕ} → at ≤ length s → fieldAt s at ≡ Decimal v e → e < length s → numbers (fieldsOf (drop at s)) ≡ both (some v) (numbers (fieldsOf (drop (e + 1) s)))
+  pub field-more : {v e : ℕ} → at ≤ length s → fieldAt s at ≡ Decimal v e → e < length s
+      → numbers (fieldsOf (drop at s)) ≡ both (some v) (numbers (fieldsOf (drop (e + 1) s)))
   unfolding numbers
   field-more {v} {e} h f l =
       let inner : length here < length (drop at s) = omega (arith, found f .1, length-drop at s) in

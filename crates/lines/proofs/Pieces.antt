@@ -41,7 +41,8 @@ unfinished-take (suc n) (b ∷ l) u =
     rw (v .0) (ap suc (unfinished-take n l (v .1)))
 
 -- an overlong line is answered 15 whatever its bytes
-overlong-first : (line : ℕ) (t : Table) (p q r : List ℕ) → Unfinished p → Unfinished q → 40 < length p → 40 < length q → printsFrom line t (p ++ r) ≡ printsFrom line t (q ++ r)
+overlong-first : (line : ℕ) (t : Table) (p q r : List ℕ) → Unfinished p → Unfinished q → 40 < length p → 40 < length q
+    → printsFrom line t (p ++ r) ≡ printsFrom line t (q ++ r)
 unfolding printsFrom answers
 overlong-first line t [] q r u v h k = absurd (omega arith)
 overlong-first line t (b ∷ p) [] r u v h k = absurd (omega arith)

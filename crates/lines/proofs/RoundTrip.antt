@@ -46,6 +46,12 @@ abbrev AllSmall : List ℕ → Type 0
 AllSmall [] = Unit {0}
 AllSmall (n ∷ ns) = Small n × AllSmall ns
 
+three-small : {a b c : ℕ} → AllSmall (a ∷ b ∷ c ∷ []) → Small a × Small b × Small c
+three-small s = (s .0, s .1 .0, s .1 .1 .0)
+
+small-three : {a b c : ℕ} → Small a × Small b × Small c → AllSmall (a ∷ b ∷ c ∷ [])
+small-three h = (h .0, (h .1, (h .2, tt)))
+
 numbers-written : (ns : List ℕ) → AllSmall ns → numbers (written ns) ≡ some ns
 unfolding numbers
 numbers-written [] h = refl
@@ -64,9 +70,9 @@ reads k ns c h l =
 pub reads-back : (e : Event) → Written e → readLine (lineOf e) ≡ Known e
 unfolding lineOf Written eventOf before
 reads-back (Fresh limit) h = reads letterS (limit ∷ []) refl (h, tt) (omega arith)
-reads-back (Join queue weight length) h = reads letterJ (queue ∷ weight ∷ length ∷ []) refl (h .0, (h .1, (h .2, tt))) (omega arith)
+reads-back (Join queue weight length) h = reads letterJ (queue ∷ weight ∷ length ∷ []) refl (small-three h) (omega arith)
 reads-back (Leave queue) h = reads letterL (queue ∷ []) refl (h, tt) (omega arith)
-reads-back (Reweight queue weight length) h = reads letterW (queue ∷ weight ∷ length ∷ []) refl (h .0, (h .1, (h .2, tt))) (omega arith)
+reads-back (Reweight queue weight length) h = reads letterW (queue ∷ weight ∷ length ∷ []) refl (small-three h) (omega arith)
 reads-back (Length queue length) h = reads letterR (queue ∷ length ∷ []) refl (h .0, (h .1, tt)) (omega arith)
 reads-back Grant h = reads letterG [] refl tt (omega arith)
 reads-back (Return queue used false) h = reads letterU (queue ∷ used ∷ 0 ∷ []) refl (h .0, (h .1, (omega arith, tt))) (omega arith)
@@ -156,12 +162,12 @@ event-only k (a ∷ b ∷ c ∷ []) e s h = join (eqb k letterJ) refl h
     returning false t h = absurd (never e h)
 
     reweight : (t : Bool) → eqb k letterW ≡ t → cond t (Known (Reweight a b c)) (cond (eqb k letterU) (returnOf a b c) Broken) ≡ Known e → Is k (a ∷ b ∷ c ∷ []) e
-    reweight true t h = let x : Reweight a b c ≡ e = cc in rw (← x, eqb-true k letterW t) (refl, (s .0, s .1 .0, s .1 .1 .0))
+    reweight true t h = let x : Reweight a b c ≡ e = cc in rw (← x, eqb-true k letterW t) (refl, three-small s)
     reweight false t h = returning (eqb k letterU) refl h
 
     join : (t : Bool) → eqb k letterJ ≡ t → cond t (Known (Join a b c)) (cond (eqb k letterW) (Known (Reweight a b c)) (cond (eqb k letterU) (returnOf a b c) Broken)) ≡ Known e
         → Is k (a ∷ b ∷ c ∷ []) e
-    join true t h = let x : Join a b c ≡ e = cc in rw (← x, eqb-true k letterJ t) (refl, (s .0, s .1 .0, s .1 .1 .0))
+    join true t h = let x : Join a b c ≡ e = cc in rw (← x, eqb-true k letterJ t) (refl, three-small s)
     join false t h = reweight (eqb k letterW) refl h
 event-only k (a ∷ b ∷ c ∷ d ∷ ns) e s h = absurd (never e h)
 
@@ -192,9 +198,9 @@ only-lines l e h = by (leb (length l) 40) h
 pub lines-short : (e : Event) → Written e → length (lineOf e) ≤ 19
 unfolding lineOf Written
 lines-short (Fresh limit) h = omega (arith, spaced-length (limit ∷ []) (h, tt))
-lines-short (Join queue weight size) h = omega (arith, spaced-length (queue ∷ weight ∷ size ∷ []) (h .0, (h .1, (h .2, tt))))
+lines-short (Join queue weight size) h = omega (arith, spaced-length (queue ∷ weight ∷ size ∷ []) (small-three h))
 lines-short (Leave queue) h = omega (arith, spaced-length (queue ∷ []) (h, tt))
-lines-short (Reweight queue weight size) h = omega (arith, spaced-length (queue ∷ weight ∷ size ∷ []) (h .0, (h .1, (h .2, tt))))
+lines-short (Reweight queue weight size) h = omega (arith, spaced-length (queue ∷ weight ∷ size ∷ []) (small-three h))
 lines-short (Length queue size) h = omega (arith, spaced-length (queue ∷ size ∷ []) (h .0, (h .1, tt)))
 lines-short Grant h = omega arith
 lines-short (Return queue used false) h = omega (arith, spaced-length (queue ∷ used ∷ 0 ∷ []) (h .0, (h .1, (omega arith, tt))))

@@ -1,5 +1,5 @@
--- `turn` works the bytes that are held; if no whole line is left, it moves the unfinished one to the front. The sections go back through the
--- stages to the start, and name what holds at each.
+-- `turn` works the bytes that are held; if no whole line is left, it moves the unfinished one to the front. The sections follow the code, and
+-- name what holds at each stage.
 use mathlib.Core.List.{List}
 use Prim.Native.Nat.{ℕ, _+_}
 use native.Mathlib.Omega.{arith}
@@ -46,13 +46,14 @@ module _ (c : tie.After-struct-known) where
 
 -- The rest is an unfinished line, and stands at the front.
 module _ (c : tie.After-keep) where
-  abbrev ended : tie.Then3
-  ended = c .before .before
+  abbrev none-left : tie.Then3
+  none-left = c .before .before
 
-  abbrev at-end : tie.After-work
-  at-end = done (ended .before)
+  abbrev worked-all : tie.After-work
+  worked-all = done (none-left .before)
 
-  moved : MovedToFront (entry at-end) (state at-end .from + at-end .work .result .read) (state at-end .have) (c .keep .last .0) (c .keep .result)
+  moved : MovedToFront (entry worked-all) (state worked-all .from + worked-all .work .result .read) (state worked-all .have)
+      (c .keep .last .0) (c .keep .result)
   moved = c .keep .ensures
 
 idle-requires : tie.Need-idle-requires
@@ -91,8 +92,8 @@ same-length-2 c = search needs
 returns-3 : tie.Need-returns-3
 returns-3 c =
     let k = c .before .before in
-    let d = at-end k in
-    turned-ends (state d) (entry d) (worked d) (ended k .if3 .taken) (moved k)
+    let d = worked-all k in
+    turned-ends (state d) (entry d) (worked d) (none-left k .if3 .taken) (moved k)
 
 same-length-3 : tie.Need-same-length-3
 same-length-3 c = search needs
