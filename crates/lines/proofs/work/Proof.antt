@@ -48,6 +48,16 @@ module _ (c : tie.After-line-end Inv-loop μ-loop) where
   end-inside : end ≤ length (piece head)
   end-inside = end-within (working head) end-is
 
+-- Its answer has no room.
+module _ (c : tie.Then2 Inv-loop μ-loop) where
+  abbrev full : tie.At-loop Inv-loop μ-loop
+  full = head (c .before .before)
+
+-- There is no number for the line after it.
+module _ (c : tie.Then3 Inv-loop μ-loop) where
+  abbrev last-number : tie.At-loop Inv-loop μ-loop
+  last-number = head (c .before .before .before)
+
 -- The line is whole, its answer has room, and there is a number for the line after it.
 module _ (c : tie.Else3 Inv-loop μ-loop) where
   abbrev found : tie.After-line-end Inv-loop μ-loop
@@ -143,16 +153,16 @@ sub-if2 : tie.Need-sub-if2 Inv-loop μ-loop
 sub-if2 c = working (head (c .before)) .room
 
 same-length-2 : tie.Need-same-length-2 Inv-loop μ-loop
-same-length-2 c = working (head (c .before .before)) .same
+same-length-2 c = working (full c) .same
 
 returns-2 : tie.Need-returns-2 Inv-loop μ-loop
-returns-2 c = let w = working (head (c .before .before)) in working-stopped w (_⊎_.inl (omega (arith, c .if2 .taken, w .room)))
+returns-2 c = let w = working (full c) in working-stopped w (_⊎_.inl (omega (arith, c .if2 .taken, w .room)))
 
 same-length-3 : tie.Need-same-length-3 Inv-loop μ-loop
-same-length-3 c = working (head (c .before .before .before)) .same
+same-length-3 c = working (last-number c) .same
 
 returns-3 : tie.Need-returns-3 Inv-loop μ-loop
-returns-3 c = working-stopped (working (head (c .before .before .before))) (_⊎_.inr (omega (arith, c .if3 .taken)))
+returns-3 c = working-stopped (working (last-number c)) (_⊎_.inr (omega (arith, c .if3 .taken)))
 
 sub-read-line : tie.Need-sub-read-line Inv-loop μ-loop
 sub-read-line c = omega (arith, end-is (found c))

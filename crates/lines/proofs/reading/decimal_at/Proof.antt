@@ -18,10 +18,13 @@ abbrev μ-loop : tie.MeasureT-loop
 
 -- At the loop's head.
 module _ (c : tie.At-loop Inv-loop μ-loop) where
-  abbrev line : List ℕ
-  line = now (c .before .before .args .s)
+  abbrev start : tie.Start Inv-loop μ-loop
+  start = c .before .before
 
-  abbrev reached : Reached line (c .before .before .args .at) (c .loop .value) (c .loop .i)
+  abbrev line : List ℕ
+  line = now (start .args .s)
+
+  abbrev reached : Reached line (start .args .at) (c .loop .value) (c .loop .i)
   reached = c .loop .inv
 
 -- A byte is read.
@@ -40,7 +43,7 @@ module _ (c : tie.Else1 Inv-loop μ-loop) where
   abbrev here : tie.At-loop Inv-loop μ-loop
   here = head (c .before)
 
-  at-byte : AtByte (line here) (here .before .before .args .at) (here .loop .value) (here .loop .i)
+  at-byte : AtByte (line here) (start here .args .at) (here .loop .value) (here .loop .i)
   at-byte = record { reached = reached here; here = inside (c .before); other = c .if1 .left }
 
 -- It is a digit, and not the sixth.
