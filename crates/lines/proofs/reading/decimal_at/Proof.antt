@@ -89,7 +89,7 @@ sub-if4 : tie.Need-sub-if4 Inv-loop μ-loop
 sub-if4 c = omega arith
 
 returns-4 : tie.Need-returns-4 Inv-loop μ-loop
-returns-4 c = sym (refused-sixth (at-byte (c .before .before .before)) (c .if4 .taken))
+returns-4 c = let b = at-byte (c .before .before .before) in sym (refused-sixth b (omega (arith, b .reached, c .if4 .taken)))
 
 sub-zero-leads : tie.Need-sub-zero-leads Inv-loop μ-loop
 sub-zero-leads c = omega arith

@@ -19,7 +19,7 @@ module _ (c : tie.Else2) where
   line = now (c .before .before .before .args .s)
 
   short : length line ≤ 40
-  short = c .before .if1 .left
+  short = omega (arith, c .before .if1 .left)
 
 -- It has two bytes.
 module _ (c : tie.Else3) where
