@@ -25,33 +25,32 @@ class Stopped(Exception):
     """There is nothing to be measured, or the outputs differ."""
 
 
-def build(source, name):
+def build(source, program):
     """Optimized, for any x86-64 machine, so that both stand on the same ground."""
-    program = WORK / name
     subprocess.run(["rustc", "-O", "-C", "target-cpu=x86-64", "--edition", "2021",
                     "-o", str(program), str(source)], check=True)
     return program
 
 
-def find_programs(proved):
-    """The proved program as given and the plain one, built, by their names."""
+def find_programs(proved, folder):
+    """The proved program as given and the plain one, built in the folder."""
     if not proved.is_file():
         raise Stopped(f"there is no program {os.path.relpath(proved)}")
-    WORK.mkdir(parents=True, exist_ok=True)
+    folder.mkdir(parents=True, exist_ok=True)
     return {"proved": proved.resolve(),
-            "plain": build(HERE / "plain" / "main.rs", "plain")}
+            "plain": build(HERE / "plain" / "main.rs", folder / "plain")}
 
 
-def make_run(queues, count, name):
-    path = WORK / name
+def make_run(queues, count, path):
     path.write_bytes(runs.make_run(queues, count, SEED))
     return path
 
 
 def check_equal(run, outputs):
-    """Two files: what the two programs printed for the run."""
+    """Two files, what the two programs printed; they are kept if they differ."""
     if not filecmp.cmp(*outputs, shallow=False):
-        files = " and ".join(str(path.relative_to(ROOT)) for path in outputs)
+        kept = [path.replace(WORK / path.name) for path in outputs]
+        files = " and ".join(str(path.relative_to(ROOT)) for path in kept)
         raise Stopped(f"the outputs for {run.name} differ, see {files}")
 
 
