@@ -1,9 +1,9 @@
 -- The account's release, lowest first, is a release: each turn takes one going entry away, so as many turns as there are entries are enough.
-use mathlib.Core.Path.{_≡_, refl, ap}
 use mathlib.Core.Bool.{Bool, true, false, cond}
 use mathlib.Core.List.{List, [], _∷_, map}
 use mathlib.Core.Logic.{⊎-elim}
 use mathlib.Core.Option.{Option, none, some}
+use mathlib.Core.Path.{_≡_, refl, ap}
 use Prim.Native.Nat.{ℕ, zero, suc, _+_, _≤_, _<_}
 use native.Mathlib.Nat.{zero-add}
 use native.Mathlib.Omega.{arith}
@@ -13,9 +13,9 @@ use Rattle.laws.proofs.First.{first-none, first-some}
 use Rattle.laws.proofs.Sums.{sum-set, sum-bound}
 use Rattle.laws.proofs.Tests.{clash, le-or-lt, and-left}
 use Rattle.fractions.specs.Fraction.{Fraction}
-use Rattle.account.specs.Changes.{Change, endsInRelease}
 use Rattle.account.specs.Account.{Entry, absent, present, Account, entry, isGoing, credited, gaining, allGain, rest, freed, made}
 use Rattle.account.specs.Books.{due, Clears, clearing, cleared, booked, accountFrom, BookedAs, Books, none-left, next-change}
+use Rattle.account.specs.Changes.{Change, endsInRelease}
 
 goes : Entry → ℕ
 goes e = cond (isGoing e) 1 0

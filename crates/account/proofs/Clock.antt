@@ -1,36 +1,37 @@
 -- V starts at 0 with each entry into an empty table and never falls while the table is not empty: the table's A / W does so at each half of each
 -- event, and the account's V is that.
-use mathlib.Core.Path.{subst}
 use mathlib.Core.Bool.{Bool}
 use mathlib.Core.List.{List, [], _∷_, _++_}
+use mathlib.Core.Option.{none}
+use mathlib.Core.Path.{subst, _≡_}
 use Prim.Native.Nat.{ℕ, _<_}
 use native.Mathlib.Omega.{arith}
-use Rattle.share.specs.declared.Event.{Event}
-use Rattle.share.specs.declared.Event.the-variants.{Fresh, Join, Leave, Reweight, Length, Grant, Return}
-use Rattle.share.specs.declared.Refusal.{Refusal}
+use Rattle.rows.specs.declared.Terms.{Terms}
+use Rattle.head.specs.declared.Event.{Event}
+use Rattle.head.specs.declared.Event.the-variants.{Fresh, Join, Leave, Reweight, Length, Grant, Return}
+use Rattle.head.specs.declared.Refusal.{Refusal}
+use Rattle.head.specs.Head.{emptyHead}
+use Rattle.head.specs.Refusals.{firstOf}
 use Rattle.share.specs.declared.Table.{Table}
-use Rattle.share.specs.Events.{emptyTable, joined, left, reweighted, lengthSet, chosen, sliceGiven, granted, returned}
-use Rattle.share.specs.Calls as Calls
-use Rattle.share.specs.Refusals.{freshChecks, joinChecks, leaveChecks, reweightChecks, lengthChecks, grantChecks, returnChecks}
-use Rattle.share.specs.declared.Answer.the-variants.{Granted}
-use Rattle.share.specs.Calls.{refused, renewReply, joinReply, leaveReply, reweightReply, lengthReply, grantReply, returnReply}
-use Rattle.share.specs.Runs.{step}
-use Rattle.share.proofs.Accepted.{Joins, join-accepted, Leaves, leave-accepted, reweight-accepted, Lengthens, length-accepted, Returns, return-accepted}
-use Rattle.share.proofs.Kept.{rejoins}
-use Rattle.calls.proofs.Calls.{call-cases}
+use Rattle.share.specs.Asks.{Joins, Leaves, Lengthens, Returns}
+use Rattle.share.specs.Calls.{refused, step, checksOf, doneBy}
+use Rattle.share.specs.Events.{emptyTable, joined, left}
+use Rattle.share.proofs.Accepted.{join-accepted, leave-accepted, reweight-accepted, length-accepted, return-accepted}
+use Rattle.share.proofs.Departing.{rejoins}
+use Rattle.calls.proofs.Replies.{call-cases}
 use Rattle.fractions.specs.Fraction.{nothing, _~_}
-use Rattle.fractions.proofs.Values.{Value, value-nothing, same-value, value-at-most}
 use Rattle.fractions.proofs.Laws.{same}
-use Rattle.account.specs.Changes.{Change, begins, joins, leaves, lengthens, returns}
+use Rattle.fractions.proofs.Values.{Value, value-nothing, same-value, value-at-most}
 use Rattle.account.specs.Account.{Account, noOne}
 use Rattle.account.specs.Books.{booked, accountFrom}
+use Rattle.account.specs.Changes.{Change, begins, joins, leaves, lengthens, returns}
 use Rattle.account.specs.Clock.{GoesOn, Steady}
-use Rattle.account.specs.Runs.{accepted, countedOf, counted, changes}
-use Rattle.account.proofs.Match.{same-weight}
-use Rattle.account.proofs.Tied.{Tied, Clocked}
-use Rattle.account.proofs.Leaving.{fresh-tied}
+use Rattle.account.specs.Counted.{countedOf, counted, changes}
 use Rattle.account.proofs.Clearing.{booked-as, account-books}
+use Rattle.account.proofs.Leaving.{fresh-tied}
+use Rattle.account.proofs.Match.{same-weight}
 use Rattle.account.proofs.Simulation.{join-tied, join-clocked, leave-tied, leave-clocked, length-tied, length-clocked, return-tied, return-clocked, refused-counts, step-tied}
+use Rattle.account.proofs.Tied.{Tied, Clocked}
 
 goes-on : {t u : Table} {a b : Account} → Tied t a → Tied u b → Clocked t u → GoesOn a b
 goes-on {t} {u} {a} {b} before after clock =
@@ -39,19 +40,19 @@ goes-on {t} {u} {a} {b} before after clock =
     record {
       starts =
           λ none h.
-          let some : 0 < u .total = omega arith in
-          same-value (subst (λ (x : ℕ). Value (b .virtual) x 0 (u .total)) (clock .starts (omega arith) some) (after .live some .clock))
-          (value-nothing 0 (u .total) some);
+          let some : 0 < u .head .total = omega arith in
+          same-value (subst (λ (x : ℕ). Value (b .virtual) x 0 (u .head .total)) (clock .starts (omega arith) some) (after .live some .clock))
+          (value-nothing 0 (u .head .total) some);
       never-falls =
           λ k h.
-          let some : 0 < t .total = omega arith in
-          let more : 0 < u .total = omega arith in
+          let some : 0 < t .head .total = omega arith in
+          let more : 0 < u .head .total = omega arith in
           value-at-most (before .live some .clock) (after .live more .clock) (omega (arith, clock .rises more));
     }
 
-empty-none : 0 < emptyTable 1 .total → ⊥
-unfolding emptyTable
-empty-none h = omega arith
+empty-none : (terms : Terms) → 0 < emptyTable terms .head .total → ⊥
+unfolding emptyTable emptyHead
+empty-none terms h = omega arith
 
 -- one half of an event
 module _ (t : Table) (a : Account) (tied : Tied t a) where
@@ -74,9 +75,9 @@ module _ (t : Table) (a : Account) (tied : Tied t a) where
       goes-on tied (return-tied t a (booked a (returns i used early)) i used early tied r (booked-as a (returns i used early)))
       (return-clocked t a i used early tied r)
 
-  begun-on : GoesOn a (booked a begins)
+  begun-on : (terms : Terms) → GoesOn a (booked a (begins terms))
   unfolding booked
-  begun-on = goes-on tied (fresh-tied 1) (record { starts = λ none h. absurd (empty-none h); rises = λ h. absurd (empty-none h) })
+  begun-on terms = goes-on tied (fresh-tied terms) (record { starts = λ none h. absurd (empty-none terms h); rises = λ h. absurd (empty-none terms h) })
 
 steady-append : (a : Account) (cs ds : List Change) → Steady a cs → Steady (accountFrom a cs) ds → Steady a (cs ++ ds)
 steady-append a [] ds h k = k
@@ -85,37 +86,22 @@ steady-append a (c ∷ cs) ds h k = (h .0, steady-append (booked a c) cs ds (h .
 refused-steady : (t : Table) (a : Account) (e : Event) (why : Refusal) → Steady a (countedOf (refused t why) e)
 refused-steady t a e why = rw (refused-counts t e why) tt
 
-step-steady : (t : Table) (a : Account) (e : Event) → Tied t a → Steady a (countedOf (step t e) e)
-unfolding step renewReply joinReply leaveReply reweightReply lengthReply grantReply returnReply countedOf accepted
-step-steady t a (Fresh limit) tied =
-    call-cases (λ r. Steady a (countedOf r (Fresh limit))) (freshChecks limit) t (Calls.accepted (emptyTable limit))
-    (λ why e. refused-steady t a (Fresh limit) why) (λ e. (begun-on t a tied, tt))
-step-steady t a (Join i w l) tied =
-    call-cases (λ r. Steady a (countedOf r (Join i w l))) (joinChecks t i w l) t (Calls.accepted (joined t i w l))
-    (λ why e. refused-steady t a (Join i w l) why)
-    (λ e. (joined-on t a tied i w l (join-accepted t i w l e) .0, tt))
-step-steady t a (Leave i) tied =
-    call-cases (λ r. Steady a (countedOf r (Leave i))) (leaveChecks t i) t (Calls.accepted (left t i))
-    (λ why e. refused-steady t a (Leave i) why)
-    (λ e. (left-on t a tied i (leave-accepted t i e) .0, tt))
-step-steady t a (Reweight i w l) tied =
-    call-cases (λ r. Steady a (countedOf r (Reweight i w l))) (reweightChecks t i w l) t (Calls.accepted (reweighted t i w l))
-    (λ why e. refused-steady t a (Reweight i w l) why)
-    (λ e.
-    let r = reweight-accepted t i w l e in
+done-steady : (t : Table) (a : Account) (e : Event) → Tied t a → firstOf (checksOf t e) ≡ none → Steady a (countedOf (doneBy t e) e)
+unfolding countedOf
+done-steady t a (Fresh terms) tied fine = (begun-on t a tied terms, tt)
+done-steady t a (Join i w l) tied fine = (joined-on t a tied i w l (join-accepted t i w l fine) .0, tt)
+done-steady t a (Leave i) tied fine = (left-on t a tied i (leave-accepted t i fine) .0, tt)
+done-steady t a (Reweight i w l) tied fine =
+    let r = reweight-accepted t i w l fine in
     let gone = left-on t a tied i (r .leaves) in
-    (gone .0, (joined-on (left t i) (booked a (leaves i)) (gone .1) i w l (rejoins t i w l r) .0, tt)))
-step-steady t a (Length i l) tied =
-    call-cases (λ r. Steady a (countedOf r (Length i l))) (lengthChecks t i l) t (Calls.accepted (lengthSet t i l))
-    (λ why e. refused-steady t a (Length i l) why)
-    (λ e. (length-on t a tied i l (length-accepted t i l e), tt))
-step-steady t a Grant tied =
-    call-cases (λ r. Steady a (countedOf r Grant)) (grantChecks t) t (record { answer = Granted (chosen t) (sliceGiven t); table = granted t })
-    (λ why e. refused-steady t a Grant why) (λ e. tt)
-step-steady t a (Return i used early) tied =
-    call-cases (λ r. Steady a (countedOf r (Return i used early))) (returnChecks t i used) t (Calls.accepted (returned t i used early))
-    (λ why e. refused-steady t a (Return i used early) why)
-    (λ e. (returned-on t a tied i used early (return-accepted t i used e), tt))
+    (gone .0, (joined-on (left t i) (booked a (leaves i)) (gone .1) i w l (rejoins t i w l r) .0, tt))
+done-steady t a (Length i l) tied fine = (length-on t a tied i l (length-accepted t i l fine), tt)
+done-steady t a Grant tied fine = tt
+done-steady t a (Return i used early) tied fine = (returned-on t a tied i used early (return-accepted t i used early fine), tt)
+
+step-steady : (t : Table) (a : Account) (e : Event) → Tied t a → Steady a (countedOf (step t e) e)
+unfolding step
+step-steady t a e tied = call-cases (λ r. Steady a (countedOf r e)) (checksOf t e) t (doneBy t e) (λ why is. refused-steady t a e why) (done-steady t a e tied)
 
 run-steady : (es : List Event) (t : Table) (a : Account) → Tied t a → Steady a (counted t es)
 run-steady [] t a tied = tt
@@ -124,11 +110,11 @@ run-steady (e ∷ es) t a tied =
     steady-append a cs (counted (step t e .table) es) (step-steady t a e tied)
     (run-steady es (step t e .table) (accountFrom a cs) (step-tied t a e tied (accountFrom a cs) (account-books a cs)))
 
-pub clock-steady : (limit : ℕ) (calls : List Event) → Steady noOne (changes limit calls)
+pub clock-steady : (terms : Terms) (calls : List Event) → Steady (noOne terms) (changes terms calls)
 unfolding changes
-clock-steady limit calls = run-steady calls (emptyTable limit) noOne (fresh-tied limit)
+clock-steady terms calls = run-steady calls (emptyTable terms) (noOne terms) (fresh-tied terms)
 
 -- before anyone has joined V is 0, too
-pub first-V : noOne .virtual ~ nothing
+pub first-V : (terms : Terms) → noOne terms .virtual ~ nothing
 unfolding noOne
-first-V = same nothing
+first-V terms = same nothing

@@ -10,33 +10,36 @@ use mathlib.Core.Option.{none, some}
 use Prim.Native.Nat.{ℕ, _*_, _≤_, _<_}
 use lib.IntN.{ℤ, pos}
 use lib.ListN.{length, take}
-use Rattle.rows.specs.Numbers.{queues, maxLimit}
+use Rattle.rows.specs.declared.Terms.{Terms}
+use Rattle.rows.specs.Numbers.{queues, leastTerms}
+use Rattle.rows.specs.Orderly.{Allowed}
 use Rattle.rows.specs.Row.{isFree, isGoing}
-use Rattle.share.specs.declared.Answer.the-variants.{Granted}
-use Rattle.share.specs.declared.Event.{Event}
-use Rattle.share.specs.declared.Event.the-variants.{Fresh}
-use Rattle.share.specs.declared.Refusal.{Refusal}
+use Rattle.head.specs.declared.Answer.the-variants.{Granted}
+use Rattle.head.specs.declared.Event.{Event}
+use Rattle.head.specs.declared.Event.the-variants.{Fresh, Grant}
+use Rattle.head.specs.declared.Head.{Head}
+use Rattle.head.specs.declared.Refusal.{Refusal}
+use Rattle.head.specs.Head as Head
+use Rattle.head.specs.Answers.{refusalNumber, number}
+use Rattle.head.specs.Refusals.{firstOf}
 use Rattle.share.specs.declared.Table.{Table}
-use Rattle.share.specs.Table.{row, AtMostV}
+use Rattle.share.specs.Table.{row, AtMostV, TrueSums}
 use Rattle.share.specs.Sound.{Sound}
 use Rattle.share.specs.Release.{Frees, released}
 use Rattle.share.specs.Choice.{eligible, deadline, Chosen}
-use Rattle.share.specs.Answers.{refusalNumber, number}
-use Rattle.share.specs.Refusals.{firstOf, grantChecks}
-use Rattle.share.specs.Calls.{grantReply, lagReply, lagList}
-use Rattle.share.specs.Events as Events
 use Rattle.share.specs.Events.{emptyTable}
-use Rattle.share.specs.Runs.{step, run, checksOf, doneBy}
-use Rattle.share.proofs.Entry as Entry
+use Rattle.share.specs.Calls.{step, checksOf, doneBy, grantReply, lagReply, lagList}
+use Rattle.share.specs.Runs.{run}
+use Rattle.head.proofs.Entry as Entry
 use Rattle.share.proofs.Release as Release
 use Rattle.calls.proofs.Answering as Answering
-use Rattle.calls.proofs.Calls.{Kept}
-use Rattle.calls.proofs.Choice as Choice
+use Rattle.calls.proofs.Applying.{Applies}
+use Rattle.calls.proofs.Choosing as Choosing
 use Rattle.calls.proofs.Exactly as Exactly
 use Rattle.calls.proofs.Granting as Granting
 use Rattle.calls.proofs.Granting.{Rightly}
-use Rattle.calls.proofs.Kept as Kept
-use Rattle.calls.proofs.Refusals.{Applies}
+use Rattle.calls.proofs.Replies.{HandedBack}
+use Rattle.calls.proofs.Soundness as Soundness
 use Rattle.fractions.specs.Signed.{summed}
 use Rattle.fractions.specs.Fraction.{nothing, _~_, total}
 use Rattle.account.specs.Account.{present, Queue, Account, entry, owedTo, weightLeft}
@@ -45,7 +48,7 @@ use Rattle.account.specs.Departures.{CountedOnce, freedTwice, sevenLines
 use Rattle.account.specs.Longest.{longestSeen}
 use Rattle.account.specs.Named.{names, Stays}
 use Rattle.account.specs.Report.{virtualTime, reported}
-use Rattle.account.specs.Runs.{accountOf, tableAfter}
+use Rattle.account.specs.Counted.{accountOf, tableAfter}
 use Rattle.account.proofs.Theorems as Theorems
 use Rattle.account.proofs.Departures as Departures
 use Rattle.account.proofs.Twice as Twice
@@ -53,7 +56,7 @@ use Rattle.account.proofs.Frames as Frames
 
 -- 1. "Every call accepts any table and any numbers, and ends." (No public call has a `requires`, and the checker proves that each returns: that is no
 -- statement about definitions.) "What is not allowed is refused by its number,"
-pub refused-by-its-number : (t : Table) (e : Event) (why : Refusal) → firstOf (checksOf t e) ≡ some why → Kept t (step t e) why
+pub refused-by-its-number : (t : Table) (e : Event) (why : Refusal) → firstOf (checksOf t e) ≡ some why → HandedBack t (step t e) why
 refused-by-its-number = Answering.step-refused
 
 pub allowed-is-done : (t : Table) (e : Event) → firstOf (checksOf t e) ≡ none → step t e ≡ doneBy t e
@@ -75,72 +78,72 @@ pub refused-leaves-the-list : (t : Table) (lent : List ℤ) → number (lagReply
 refused-leaves-the-list = Answering.refused-list
 
 -- 2. "Every accepted event gives the queue, slice"
-pub grants-rightly : (t : Table) → firstOf (grantChecks t) ≡ none → (queue slice : ℕ) → grantReply t .answer ≡ Granted queue slice → Rightly t queue slice
+pub grants-rightly : (t : Table) → firstOf (checksOf t Grant) ≡ none → (queue slice : ℕ) → grantReply t .answer ≡ Granted queue slice → Rightly t queue slice
 grants-rightly = Granting.grant-rightly
 
 pub only-one-is-chosen : (t : Table) (i j : ℕ) → Chosen t i → Chosen t j → i ≡ j
-only-one-is-chosen = Choice.chosen-only
+only-one-is-chosen = Choosing.chosen-only
 
 -- "and table that the EEVDF rules give,"
 pub tables-stay-sound : (t : Table) (e : Event) → Sound t → Sound (step t e .table)
-tables-stay-sound = Kept.step-keeps
+tables-stay-sound = Soundness.step-keeps
 
-pub runs-are-sound : (limit : ℕ) → 1 ≤ limit → limit ≤ maxLimit → (calls : List Event) → Sound (run (emptyTable limit) calls)
-runs-are-sound = Kept.run-sound
+pub runs-are-sound : (terms : Terms) → Allowed terms → (calls : List Event) → Sound (run (emptyTable terms) calls)
+runs-are-sound = Soundness.run-sound
 
 -- "with our rules for rounding,"
-pub enters-not-below-V : (t : Table) → 0 < t .total → t .sum ≤ Events.entry t * t .total
+pub enters-not-below-V : (h : Head) → 0 < h .total → h .sum ≤ Head.entry h * h .total
 enters-not-below-V = Entry.entry-not-below
 
-pub enters-at-the-least : (t : Table) → 0 < t .total → (c : ℕ) → t .sum ≤ c * t .total → Events.entry t ≤ c
+pub enters-at-the-least : (h : Head) → 0 < h .total → (c : ℕ) → h .sum ≤ c * h .total → Head.entry h ≤ c
 enters-at-the-least = Entry.entry-least
 
 -- "ties"
 pub ties-to-the-lower : (t : Table) (i j : ℕ) → Chosen t i → eligible t (row t j) ≡ true → deadline (row t j) ≡ deadline (row t i) → i ≤ j
-ties-to-the-lower = Choice.lowest-number
+ties-to-the-lower = Choosing.lowest-number
 
 -- "and departures."
-pub released-in-any-order : {t u v : Table} → Frees t u → Frees t v → u ≡ v
+pub released-in-any-order : {t u v : Table} → TrueSums t → Frees t u → Frees t v → u ≡ v
 released-in-any-order = Release.same-end
 
 pub released-when-reached : (t : Table) (j : ℕ) → isGoing (row t j .state) ≡ true → (isFree (row (released t) j .state) ≡ true) ↔ AtMostV (released t) (row t j .position)
 released-when-reached = Exactly.released-exactly
 
 -- "A grant on a sound table is refused for want of a queue exactly when the table is empty."
-pub eleven-exactly-when-empty : (t : Table) → Sound t → (number (grantReply t .answer) ≡ 11) ↔ (t .total ≡ 0)
+pub eleven-exactly-when-empty : (t : Table) → Sound t → (number (grantReply t .answer) ≡ 11) ↔ (t .head .total ≡ 0)
 eleven-exactly-when-empty = Granting.grant-eleven
 
 -- 3. "Over any run of calls from a fresh table, each queue's reported lag equals its account worked out afresh from the run;"
-pub reported-lag-is-account : (limit : ℕ) → 1 ≤ limit → limit ≤ maxLimit → (calls : List Event) (lent : List ℤ) → queues ≤ length lent → (i : ℕ) → i < queues → reported (tableAfter limit calls) lent i ~ owedTo (entry (accountOf limit calls) i)
-reported-lag-is-account limit low high calls lent long = Theorems.report-is-account limit low high calls lent long
+pub reported-lag-is-account : (terms : Terms) → Allowed terms → (calls : List Event) (lent : List ℤ) → queues ≤ length lent → (i : ℕ) → i < queues → reported (tableAfter terms calls) lent i ~ owedTo (entry (accountOf terms calls) i)
+reported-lag-is-account terms is-allowed calls lent long = Theorems.report-is-account terms is-allowed calls lent long
 
 -- "each departure counts once;"
 pub departure-counts-once : (a : Account) (i : ℕ) → i < length (a .entries) → 0 < weightLeft a i → CountedOnce a i
 departure-counts-once = Departures.counted-once
 
-pub last-one-owes-nothing : (limit : ℕ) (calls : List Event) (i : ℕ) (q : Queue) → entry (accountOf limit calls) i ≡ present q → weightLeft (accountOf limit calls) i ≡ 0 → q .owed ~ nothing
+pub last-one-owes-nothing : (terms : Terms) (calls : List Event) (i : ℕ) (q : Queue) → entry (accountOf terms calls) i ≡ present q → weightLeft (accountOf terms calls) i ≡ 0 → q .owed ~ nothing
 last-one-owes-nothing = Theorems.last-owes-nothing
 
-pub counted-twice-it-differs : freedTwice (accountOf 1 sevenLines) 1 .virtual ~ virtualTime (tableAfter 1 eightLines) → ⊥
+pub counted-twice-it-differs : freedTwice (accountOf leastTerms sevenLines) 1 .virtual ~ virtualTime (tableAfter leastTerms eightLines) → ⊥
 counted-twice-it-differs = Twice.twice-differs
 
 -- "the lags add up to nothing;"
-pub reported-lags-add-up-to-nothing : (limit : ℕ) → 1 ≤ limit → limit ≤ maxLimit → (calls : List Event) (lent : List ℤ) → queues ≤ length lent → summed (take queues (lagList (tableAfter limit calls) lent)) ≡ pos 0
-reported-lags-add-up-to-nothing limit low high calls lent long = Theorems.report-level limit low high calls lent long
+pub reported-lags-add-up-to-nothing : (terms : Terms) → Allowed terms → (calls : List Event) (lent : List ℤ) → queues ≤ length lent → summed (take queues (lagList (tableAfter terms calls) lent)) ≡ pos 0
+reported-lags-add-up-to-nothing terms is-allowed calls lent long = Theorems.report-level terms is-allowed calls lent long
 
-pub accounts-add-up-to-nothing : (limit : ℕ) (calls : List Event) → total (map owedTo (accountOf limit calls .entries)) ~ nothing
+pub accounts-add-up-to-nothing : (terms : Terms) (calls : List Event) → total (map owedTo (accountOf terms calls .entries)) ~ nothing
 accounts-add-up-to-nothing = Theorems.accounts-level
 
 -- "no account falls as low as minus the longest request opened since it last joined;"
-pub account-above-minus-longest : (limit : ℕ) (calls : List Event) (i : ℕ) (q : Queue) → entry (accountOf limit calls) i ≡ present q → tooLow q ≡ false
+pub account-above-minus-longest : (terms : Terms) (calls : List Event) (i : ℕ) (q : Queue) → entry (accountOf terms calls) i ≡ present q → tooLow q ≡ false
 account-above-minus-longest = Theorems.account-above
 
-pub longest-is-the-longest-seen : (limit : ℕ) (calls : List Event) (i : ℕ) (q : Queue) → entry (accountOf limit calls) i ≡ present q → q .longest ≡ longestSeen (emptyTable limit) calls i 0
+pub longest-is-the-longest-seen : (terms : Terms) (calls : List Event) (i : ℕ) (q : Queue) → entry (accountOf terms calls) i ≡ present q → q .longest ≡ longestSeen (emptyTable terms) calls i 0
 longest-is-the-longest-seen = Theorems.longest-seen
 
 -- "an event alters only the rows that it names or releases."
 pub event-alters-only : (t : Table) (e : Event) (i : ℕ) → names e i ≡ false → Stays (row t i) (row (step t e .table) i)
 event-alters-only = Frames.alters-only
 
-pub event-names-one-row : (e : Event) → ((limit : ℕ) → e ≢ Fresh limit) → (i j : ℕ) → names e i ≡ true → names e j ≡ true → i ≡ j
+pub event-names-one-row : (e : Event) → ((terms : Terms) → e ≢ Fresh terms) → (i j : ℕ) → names e i ≡ true → names e j ≡ true → i ≡ j
 event-names-one-row = Frames.names-one

@@ -1,8 +1,8 @@
 -- A departure counts once: the shares are the account times weight over the weight left, and the weights of those who stay add up to the weight
 -- left. A departure that counts twice gives another V than the table, which bench case B2 shows.
-use mathlib.Core.Path.{_≡_, refl, ap, _∙_}
 use mathlib.Core.List.{List, [], _∷_, map}
 use mathlib.Core.Logic.{_≢_}
+use mathlib.Core.Path.{_≡_, refl, ap, _∙_}
 use Prim.Native.Nat.{ℕ, _+_, _*_, _<_}
 use native.Mathlib.Nat.{mul-pos}
 use native.Mathlib.Omega.{arith}
@@ -12,8 +12,8 @@ use Rattle.laws.specs.Lists.{sumOf}
 use Rattle.rows.specs.Numbers.{unit}
 use Rattle.fractions.specs.Fraction.{Fraction, _⊕_, portion, _~_, total}
 use Rattle.fractions.proofs.Differences.{up, down}
-use Rattle.fractions.proofs.Values.{Value, value-itself, value-nothing, value-sum, value-portion, value-change, same-value}
 use Rattle.fractions.proofs.Laws.{same}
+use Rattle.fractions.proofs.Values.{Value, value-itself, value-nothing, value-sum, value-portion, value-change, same-value}
 use Rattle.account.specs.Account.{Entry, absent, present, Account, entry, weightOf, owedTo, weightIn, gaining, passedOn, rest, weightLeft, freed}
 use Rattle.account.specs.Departures.{share, CountedOnce}
 use Rattle.account.proofs.Match.{gain-at}

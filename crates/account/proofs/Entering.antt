@@ -1,40 +1,42 @@
 -- An entry. The newcomer's opening account is its lag at the old V: put it in first, then let every row gain the move of V. The account's ceiling
 -- of V is the table's entry, since both are the least whole number not below V.
-use mathlib.Core.Path.{_≡_, refl, ap, _∙_}
 use mathlib.Core.Bool.{true, cond}
 use mathlib.Core.List.{List}
 use mathlib.Core.Logic.{⊎-elim}
+use mathlib.Core.Path.{_≡_, refl, ap, _∙_}
 use Prim.Native.Nat.{ℕ, zero, suc, _+_, _-_, _*_, _≤_, _<_}
 use native.Mathlib.Nat.{mul-pos, mul-le-mul-left, mul-le-mul-right, le-antisymm}
 use native.Mathlib.Omega.{arith}
-use lib.ListN.{length, getD, set}
 use lib.Dec.{eqb}
+use lib.ListN.{length, getD, set}
 use borrow.Author.Tests.{ne-eqb, eq-eqb}
 use Rattle.laws.proofs.Sums.{sum-bound}
 use Rattle.laws.proofs.Tests.{le-or-lt}
 use Rattle.rows.specs.declared.Row.{Row}
 use Rattle.rows.specs.declared.State.{State}
 use Rattle.rows.specs.Numbers.{queues, unit, maxWeight}
-use Rattle.rows.specs.Row.{blank, isFree, weightIn as rowWeight, momentIn as rowMoment}
+use Rattle.rows.specs.Requests.{opened, entering}
+use Rattle.rows.specs.Row.{blank, isFree}
+use Rattle.head.specs.Head.{summed}
+use Rattle.head.proofs.Entry.{entry-empty, entry-not-below, entry-least}
 use Rattle.share.specs.declared.Table.{Table}
 use Rattle.share.specs.Table.{row, trueSum, placed}
-use Rattle.share.specs.Events.{opened, entering}
-use Rattle.share.specs.Events as Share
 use Rattle.share.proofs.Sound.{row-past}
-use Rattle.share.proofs.Entry.{entry-empty, entry-not-below, entry-least}
 use Rattle.fractions.specs.Fraction.{Fraction, whole, nothing, _⊕_, minus, portion, ceilingOf}
 use Rattle.fractions.proofs.Values.{Value, value-whole, value-nothing, value-minus, value-sum, value-portion, value-change, ceiling-not-below, ceiling-least}
-use Rattle.account.specs.Account as Acc
 use Rattle.account.specs.Account.{Entry, absent, present, Account, weightIn, allGain, newcomer, enteredBeside, enteredAlone, entered}
 use Rattle.account.proofs.Match.{Alike, Match, moment-is, same-weight, placed-total, placed-sum, set-both, match-set, match-gain}
-use Rattle.account.proofs.Tied.{Held, Live, Tied, Clocked, Moves, moved, none-owed}
 use Rattle.account.proofs.Releases.{weight-within}
+use Rattle.account.proofs.Tied.{Held, Live, Tied, Clocked, Moves, moved, none-owed}
+use Rattle.rows.specs.Row.{blank, isFree, weightIn as rowWeight, momentIn as rowMoment}
+use Rattle.head.specs.Head as Share
+use Rattle.account.specs.Account as Acc
 
 -- the account's ceiling is the table's entry
-pub same-entry : (t : Table) (a : Account) → 0 < t .total → Live t a → ceilingOf (a .virtual) ≡ Share.entry t
+pub same-entry : (t : Table) (a : Account) → 0 < t .head .total → Live t a → ceilingOf (a .virtual) ≡ Share.entry (t .head)
 same-entry t a h live =
-    le-antisymm (ceiling-least (live .clock) (Share.entry t) (entry-not-below t h))
-    (entry-least t h (ceilingOf (a .virtual)) (ceiling-not-below (live .clock)))
+    le-antisymm (ceiling-least (live .clock) (Share.entry (t .head)) (entry-not-below (t .head) h))
+    (entry-least (t .head) h (ceilingOf (a .virtual)) (ceiling-not-below (live .clock)))
 
 newcomer-alike : (w c l : ℕ) (f : Fraction) → 1 ≤ w → Alike (entering w c l) (newcomer w l f)
 unfolding entering opened newcomer rowWeight
@@ -87,16 +89,16 @@ ahead-numbers A W w c l near light heavy some others =
     omega (arith, x, y, z)
 
 -- the entry is less than one above V
-entry-near : (t : Table) → 0 < t .total → Share.entry t * t .total < t .sum + t .total
-entry-near t h = ⊎-elim lower higher (le-or-lt (t .sum) ((Share.entry t - 1) * t .total))
+entry-near : (t : Table) → 0 < t .head .total → Share.entry (t .head) * t .head .total < t .head .sum + t .head .total
+entry-near t h = ⊎-elim lower higher (le-or-lt (t .head .sum) ((Share.entry (t .head) - 1) * t .head .total))
   where
-    lower : t .sum ≤ (Share.entry t - 1) * t .total → Share.entry t * t .total < t .sum + t .total
-    lower e = let z : Share.entry t ≡ 0 = omega (arith, entry-least t h (Share.entry t - 1) e) in rw z (omega arith)
+    lower : t .head .sum ≤ (Share.entry (t .head) - 1) * t .head .total → Share.entry (t .head) * t .head .total < t .head .sum + t .head .total
+    lower e = let z : Share.entry (t .head) ≡ 0 = omega (arith, entry-least (t .head) h (Share.entry (t .head) - 1) e) in rw z (omega arith)
 
-    higher : (Share.entry t - 1) * t .total < t .sum → Share.entry t * t .total < t .sum + t .total
-    higher e = by (Share.entry t) e
+    higher : (Share.entry (t .head) - 1) * t .head .total < t .head .sum → Share.entry (t .head) * t .head .total < t .head .sum + t .head .total
+    higher e = by (Share.entry (t .head)) e
       where
-        by : (c : ℕ) → (c - 1) * t .total < t .sum → c * t .total < t .sum + t .total
+        by : (c : ℕ) → (c - 1) * t .head .total < t .head .sum → c * t .head .total < t .head .sum + t .head .total
         by zero k = omega arith
         by (suc c) k = let same : suc c - 1 ≡ c = omega arith in omega (arith, rw same at k)
 
@@ -105,13 +107,13 @@ nobody : (A W : ℕ) (r : Row) (e : Entry) → 0 < W → Alike r e → rowWeight
 nobody A W r absent h like none = record { lags = none-owed (rowWeight r) A (W * r .position) (W * unit) none (mul-pos h (omega arith)); bounded = tt }
 nobody A W r (present q) h like none = absurd (omega (arith, like .weighs (like .free)))
 
-pub no-weight : (t : Table) (es : List Entry) → Match t es → t .total ≡ 0 → (j : ℕ) → rowWeight (row t j) ≡ 0
+pub no-weight : (t : Table) (es : List Entry) → Match t es → t .head .total ≡ 0 → (j : ℕ) → rowWeight (row t j) ≡ 0
 no-weight t es m none j = ⊎-elim (λ past. ap rowWeight (row-past t j past) ∙ blank-weight) (λ l. omega (arith, weight-within t j (m .sums) l)) (le-or-lt (length (t .rows)) j)
   where
     blank-weight : rowWeight blank ≡ 0
     blank-weight = free-weighs-nothing blank refl
 
-pub no-sum : (t : Table) (es : List Entry) → Match t es → t .total ≡ 0 → t .sum ≡ 0
+pub no-sum : (t : Table) (es : List Entry) → Match t es → t .head .total ≡ 0 → t .head .sum ≡ 0
 unfolding trueSum row
 no-sum t es m none =
     omega (arith, m .sums .sum-true, sum-bound rowMoment (t .rows) blank 0 (λ j l. at j))
@@ -128,7 +130,7 @@ module _ (t : Table) (a : Account) (i w l : ℕ) (tied : Tied t a) (numbered : i
   within = omega (arith, tied .matched .entries-each)
 
   c : ℕ
-  c = Share.entry t
+  c = Share.entry (t .head)
 
   r : Row
   r = entering w c l
@@ -140,11 +142,15 @@ module _ (t : Table) (a : Account) (i w l : ℕ) (tied : Tied t a) (numbered : i
   unfolding r entering rowWeight
   row-weight = refl
 
-  W-new : u .total ≡ t .total + w
+  terms-kept : a .terms ≡ u .head .terms
+  unfolding u placed summed
+  terms-kept = tied .same-terms
+
+  W-new : u .head .total ≡ t .head .total + w
   unfolding u
   W-new = omega (arith, placed-total t i r (tied .matched .sums) inside, row-weight, free-weighs-nothing (row t i) vacant)
 
-  A-new : u .sum ≡ t .sum + w * c
+  A-new : u .head .sum ≡ t .head .sum + w * c
   unfolding u r entering
   A-new =
       let e = placed-sum t i r (tied .matched .sums) inside in
@@ -152,23 +158,23 @@ module _ (t : Table) (a : Account) (i w l : ℕ) (tied : Tied t a) (numbered : i
       omega (arith, f)
 
   -- beside others
-  module _ (others : 0 < t .total) where
+  module _ (others : 0 < t .head .total) where
     live : Live t a
     live = tied .live others
 
     above : Fraction
     above = whole (ceilingOf (a .virtual)) ⊕ minus (a .virtual)
 
-    above-value : Value above (c * t .total) (t .sum) (t .total)
+    above-value : Value above (c * t .head .total) (t .head .sum) (t .head .total)
     unfolding above c
     above-value =
         rw (same-entry t a others live)
-        (value-change others (omega arith) (value-sum (value-whole (Share.entry t)) (value-minus (live .clock))))
+        (value-change others (omega arith) (value-sum (value-whole (Share.entry (t .head))) (value-minus (live .clock))))
 
     gap : Fraction
     gap = portion above w unit
 
-    gap-value : Value gap (c * t .total * w) (t .sum * w) (t .total * unit)
+    gap-value : Value gap (c * t .head .total * w) (t .head .sum * w) (t .head .total * unit)
     unfolding gap
     gap-value = value-portion w unit (omega arith) above-value
 
@@ -180,62 +186,62 @@ module _ (t : Table) (a : Account) (i w l : ℕ) (tied : Tied t a) (numbered : i
     entered-match =
         match-set t (a .entries) i r (newcomer w l (minus gap)) numbered (newcomer-alike w c l (minus gap) light) (tied .matched)
 
-    same-total : weightIn with-newcomer ≡ u .total
+    same-total : weightIn with-newcomer ≡ u .head .total
     same-total = same-weight entered-match
 
-    reaches-V : t .sum ≤ c * t .total
+    reaches-V : t .head .sum ≤ c * t .head .total
     unfolding c
-    reaches-V = entry-not-below t others
+    reaches-V = entry-not-below (t .head) others
 
-    moves : Moves (t .sum) (t .total) (u .sum) (u .total) gap (u .total)
+    moves : Moves (t .head .sum) (t .head .total) (u .head .sum) (u .head .total) gap (u .head .total)
     moves =
-        let after : 0 < u .total = omega (arith, W-new) in
+        let after : 0 < u .head .total = omega (arith, W-new) in
         record {
-          plus = c * t .total * w;
-          less = t .sum * w;
-          base = t .total * unit;
+          plus = c * t .head .total * w;
+          less = t .head .sum * w;
+          base = t .head .total * unit;
           amount = gap-value;
           shared = after;
           before = others;
           after = after;
-          move = move-numbers (t .sum) (t .total) (u .sum) (u .total) unit w c A-new W-new;
-          rises = rise-numbers (t .sum) (t .total) (u .sum) (u .total) w c A-new W-new reaches-V;
+          move = move-numbers (t .head .sum) (t .head .total) (u .head .sum) (u .head .total) unit w c A-new W-new;
+          rises = rise-numbers (t .head .sum) (t .head .total) (u .head .sum) (u .head .total) w c A-new W-new reaches-V;
         }
 
-    newcomer-held : Held (t .sum) (t .total) r (newcomer w l (minus gap))
+    newcomer-held : Held (t .head .sum) (t .head .total) r (newcomer w l (minus gap))
     unfolding r entering newcomer rowWeight c
     newcomer-held =
         record {
           lags = value-change (mul-pos others (omega arith)) (omega arith) (value-minus gap-value);
-          bounded = ahead-numbers (t .sum) (t .total) w (Share.entry t) l (entry-near t others) light heavy some others;
+          bounded = ahead-numbers (t .head .sum) (t .head .total) w (Share.entry (t .head)) l (entry-near t others) light heavy some others;
         }
 
-    beside-live : Live u (record { entries = allGain gap (u .total) with-newcomer; virtual = a .virtual ⊕ portion above w (u .total) })
+    beside-live : Live u (record { entries = allGain gap (u .head .total) with-newcomer; virtual = a .virtual ⊕ portion above w (u .head .total); terms = a .terms })
     unfolding u with-newcomer
     beside-live =
         record {
           clock =
-              value-change (moves .after) (clock-numbers (t .sum) (t .total) (u .sum) (u .total) w c A-new W-new)
-              (value-sum (live .clock) (value-portion w (u .total) (moves .after) above-value));
+              value-change (moves .after) (clock-numbers (t .head .sum) (t .head .total) (u .head .sum) (u .head .total) w c A-new W-new)
+              (value-sum (live .clock) (value-portion w (u .head .total) (moves .after) above-value));
           held =
               moved moves entered-match
-              (set-both (Held (t .sum) (t .total)) t (a .entries) i r (newcomer w l (minus gap)) inside within newcomer-held (live .held));
+              (set-both (Held (t .head .sum) (t .head .total)) t (a .entries) i r (newcomer w l (minus gap)) inside within newcomer-held (live .held));
         }
 
     beside-tied : Tied u (enteredBeside a i w l)
     unfolding enteredBeside above gap with-newcomer
-    beside-tied = rw same-total (record { matched = match-gain gap (u .total) entered-match; live = λ h. beside-live })
+    beside-tied = rw same-total (record { same-terms = terms-kept; matched = match-gain gap (u .head .total) entered-match; live = λ h. beside-live })
 
   -- alone
-  module _ (none : t .total ≡ 0) where
+  module _ (none : t .head .total ≡ 0) where
     c-zero : c ≡ 0
     unfolding c
-    c-zero = entry-empty t none
+    c-zero = entry-empty (t .head) none
 
-    A-zero : u .sum ≡ 0
+    A-zero : u .head .sum ≡ 0
     A-zero = A-new ∙ rw (c-zero, no-sum t (a .entries) (tied .matched) none) (omega arith)
 
-    first-held : 0 < u .total → Held (u .sum) (u .total) r (newcomer w l nothing)
+    first-held : 0 < u .head .total → Held (u .head .sum) (u .head .total) r (newcomer w l nothing)
     unfolding r entering newcomer rowWeight
     first-held h =
         rw (A-zero, c-zero)
@@ -248,37 +254,38 @@ module _ (t : Table) (a : Account) (i w l : ℕ) (tied : Tied t a) (numbered : i
     unfolding enteredAlone u r
     alone-tied =
         record {
+          same-terms = terms-kept;
           matched = match-set t (a .entries) i r (newcomer w l nothing) numbered (newcomer-alike w c l nothing light) (tied .matched);
           live =
               λ h.
               record {
-                clock = rw A-zero (value-nothing 0 (u .total) h);
+                clock = rw A-zero (value-nothing 0 (u .head .total) h);
                 held =
-                    set-both (Held (u .sum) (u .total)) t (a .entries) i r (newcomer w l nothing) inside within (first-held h)
-                    (λ j. nobody (u .sum) (u .total) (row t j) (getD (a .entries) j absent) h (tied .matched .alike j)
+                    set-both (Held (u .head .sum) (u .head .total)) t (a .entries) i r (newcomer w l nothing) inside within (first-held h)
+                    (λ j. nobody (u .head .sum) (u .head .total) (row t j) (getD (a .entries) j absent) h (tied .matched .alike j)
                     (no-weight t (a .entries) (tied .matched) none j));
               };
         }
 
-  pub entered-tied : Tied (placed t i (entering w (Share.entry t) l)) (entered a i w l)
+  pub entered-tied : Tied (placed t i (entering w (Share.entry (t .head)) l)) (entered a i w l)
   unfolding entered Acc.isEmpty u r c
-  entered-tied = ⊎-elim beside alone (le-or-lt 1 (t .total))
+  entered-tied = ⊎-elim beside alone (le-or-lt 1 (t .head .total))
     where
-      beside : 1 ≤ t .total → Tied u (cond (eqb (weightIn (a .entries)) 0) (enteredAlone a i w l) (enteredBeside a i w l))
-      beside h = rw (same-weight (tied .matched), ne-eqb (t .total) 0 (λ e. omega arith)) (beside-tied h)
+      beside : 1 ≤ t .head .total → Tied u (cond (eqb (weightIn (a .entries)) 0) (enteredAlone a i w l) (enteredBeside a i w l))
+      beside h = rw (same-weight (tied .matched), ne-eqb (t .head .total) 0 (λ e. omega arith)) (beside-tied h)
 
-      alone : t .total < 1 → Tied u (cond (eqb (weightIn (a .entries)) 0) (enteredAlone a i w l) (enteredBeside a i w l))
+      alone : t .head .total < 1 → Tied u (cond (eqb (weightIn (a .entries)) 0) (enteredAlone a i w l) (enteredBeside a i w l))
       alone h =
-          let none : t .total ≡ 0 = omega arith in
-          rw (same-weight (tied .matched), eq-eqb (t .total) 0 none) (alone-tied none)
+          let none : t .head .total ≡ 0 = omega arith in
+          rw (same-weight (tied .matched), eq-eqb (t .head .total) 0 none) (alone-tied none)
 
-  pub entered-clocked : Clocked t (placed t i (entering w (Share.entry t) l))
+  pub entered-clocked : Clocked t (placed t i (entering w (Share.entry (t .head)) l))
   unfolding u r c
   entered-clocked =
       record {
         starts = λ none h. A-zero none;
-        rises = λ h. ⊎-elim (λ some. moves some .rises) (λ none. emptied (omega arith)) (le-or-lt 1 (t .total));
+        rises = λ h. ⊎-elim (λ some. moves some .rises) (λ none. emptied (omega arith)) (le-or-lt 1 (t .head .total));
       }
     where
-      emptied : t .total ≡ 0 → t .sum * u .total ≤ u .sum * t .total
+      emptied : t .head .total ≡ 0 → t .head .sum * u .head .total ≤ u .head .sum * t .head .total
       emptied none = rw (no-sum t (a .entries) (tied .matched) none) (omega arith)

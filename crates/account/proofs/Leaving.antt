@@ -1,36 +1,40 @@
 -- The events that move no V: a queue that leaves owing time and becomes going, a length, a slice given out or taken in, an empty table. A queue
 -- that leaves and is owed time is freed, which is a departure like any other.
-use mathlib.Core.Path.{_≡_, refl, sym, _∙_}
 use mathlib.Core.Bool.{Bool, true, false, cond}
 use mathlib.Core.Logic.{⊎-elim}
+use mathlib.Core.Path.{_≡_, refl, sym, _∙_}
 use Prim.Native.Nat.{ℕ, zero, suc, _+_, _*_, _≤_, _<_}
 use native.Mathlib.Omega.{arith}
 use lib.ListN.{length, getD, set, replicate, length-replicate, getD-replicate, List·getD-eq-default}
-use Rattle.laws.proofs.Tests.{clash, either, le-or-lt}
 use Rattle.laws.specs.Lists.{sumOf}
+use Rattle.laws.proofs.Tests.{clash, either, le-or-lt}
 use Rattle.rows.specs.declared.Row.{Row}
 use Rattle.rows.specs.declared.State.{State}
 use Rattle.rows.specs.declared.State.the-variants.{Free, Going, Asking}
+use Rattle.rows.specs.declared.Terms.{Terms}
 use Rattle.rows.specs.Numbers.{queues}
-use Rattle.rows.specs.Row.{blank, isFree, isAsking, weightIn as rowWeight, momentIn as rowMoment}
+use Rattle.rows.specs.Requests.{nextSet}
+use Rattle.rows.specs.Row.{blank, isFree, isAsking}
+use Rattle.rows.proofs.Virtual.{reached-yes, yes-reached}
+use Rattle.head.specs.Head.{sliced, emptyHead}
 use Rattle.share.specs.declared.Table.{Table}
-use Rattle.share.specs.Table.{row, trueTotal, trueSum, AtMostV, reached, placed, withSlice}
+use Rattle.share.specs.Events.{emptyTable, leaving}
 use Rattle.share.specs.Release.{freed}
-use Rattle.share.specs.Events.{emptyTable, leaving, nextSet}
-use Rattle.share.proofs.Placed.{TrueSums}
-use Rattle.share.proofs.Virtual.{reached-yes, yes-reached}
-use Rattle.calls.proofs.Departure.{weight-here}
-use Rattle.account.specs.Account as Acc
+use Rattle.share.specs.Table.{row, trueTotal, trueSum, AtMostV, reached, placed, withSlice, TrueSums}
+use Rattle.calls.proofs.OneDeparture.{weight-here}
 use Rattle.account.specs.Account.{Entry, absent, present, Account, entry, settled, goingAway, noOne}
-use Rattle.account.proofs.Match.{Alike, placed-total, placed-sum, set-both, match-set, blank-alike}
-use Rattle.account.proofs.Tied.{Held, Tied, Clocked}
+use Rattle.account.proofs.Match.{Alike, placed-total, placed-sum, set-both, match-set, blank-alike, placed-terms}
 use Rattle.account.proofs.Releases.{settled-yes, yes-settled, present-inside, W-left, freed-rises, freed-tied, live-at}
+use Rattle.account.proofs.Tied.{Held, Tied, Clocked}
+use Rattle.rows.specs.Row.{blank, isFree, isAsking, weightIn as rowWeight, momentIn as rowMoment}
+use Rattle.account.specs.Account as Acc
 
 -- a slice given out or taken in
 pub slice-tied : (t : Table) (a : Account) (out : Bool) (holder ticks : ℕ) → Tied t a → Tied (withSlice t out holder ticks) a
-unfolding withSlice row
+unfolding withSlice sliced row
 slice-tied t a out holder ticks tied =
     record {
+      same-terms = tied .same-terms;
       matched =
           record {
             rows-each = tied .matched .rows-each;
@@ -50,10 +54,11 @@ pub at-replicate {ℓ} : {A : Type ℓ} (n j : ℕ) (d : A) → getD (replicate 
 at-replicate n j d =
     ⊎-elim (λ past. List·getD-eq-default (replicate n d) d (rw (length-replicate n d) past)) (λ l. getD-replicate n j d d l) (le-or-lt n j)
 
-pub fresh-tied : (limit : ℕ) → Tied (emptyTable limit) noOne
-unfolding emptyTable noOne row trueTotal trueSum rowWeight rowMoment
-fresh-tied limit =
+pub fresh-tied : (terms : Terms) → Tied (emptyTable terms) (noOne terms)
+unfolding emptyTable emptyHead noOne row trueTotal trueSum rowWeight rowMoment
+fresh-tied terms =
     record {
+      same-terms = refl;
       matched =
           record {
             rows-each = length-replicate queues blank;
@@ -69,18 +74,19 @@ same-numbers x y w w' p p' e f g = let k : x + w * p ≡ y + w * p = rw (f, g) a
 
 -- a row set to another of the same weight at the same position, in both
 module _ (t : Table) (a : Account) (i : ℕ) (tied : Tied t a) (inside : i < length (t .rows)) (r : Row) (e : Entry) (same-part : rowWeight r ≡ rowWeight (row t i)) (same-place : r .position ≡ row t i .position) (like : Alike r e) (keeps : (A W : ℕ) → Held A W (row t i) (entry a i) → Held A W r e) where
-  W-same : placed t i r .total ≡ t .total
+  W-same : placed t i r .head .total ≡ t .head .total
   W-same = omega (arith, placed-total t i r (tied .matched .sums) inside)
 
-  A-same : placed t i r .sum ≡ t .sum
+  A-same : placed t i r .head .sum ≡ t .head .sum
   A-same =
-      same-numbers (placed t i r .sum) (t .sum) (rowWeight (row t i)) (rowWeight r) (row t i .position) (r .position)
+      same-numbers (placed t i r .head .sum) (t .head .sum) (rowWeight (row t i)) (rowWeight r) (row t i .position) (r .position)
       (placed-sum t i r (tied .matched .sums) inside) same-part same-place
 
-  pub kept-tied : Tied (placed t i r) (record { entries = set (a .entries) i e; virtual = a .virtual })
+  pub kept-tied : Tied (placed t i r) (record { entries = set (a .entries) i e; virtual = a .virtual; terms = a .terms })
   unfolding entry
   kept-tied =
       record {
+        same-terms = tied .same-terms ∙ sym (placed-terms t i r);
         matched = match-set t (a .entries) i r e (omega (arith, tied .matched .rows-each)) like (tied .matched);
         live =
             λ h.
@@ -88,9 +94,9 @@ module _ (t : Table) (a : Account) (i : ℕ) (tied : Tied t a) (inside : i < len
             record {
               clock = rw (W-same, A-same) (live .clock);
               held =
-                  set-both (Held (placed t i r .sum) (placed t i r .total)) t (a .entries) i r e inside
+                  set-both (Held (placed t i r .head .sum) (placed t i r .head .total)) t (a .entries) i r e inside
                   (omega (arith, tied .matched .rows-each, tied .matched .entries-each))
-                  (rw (W-same, A-same) (keeps (t .sum) (t .total) (live .held i)))
+                  (rw (W-same, A-same) (keeps (t .head .sum) (t .head .total) (live .held i)))
                   (λ j. rw (W-same, A-same) (live .held j));
             };
       }
@@ -152,26 +158,26 @@ module _ (t : Table) (a : Account) (i : ℕ) (tied : Tied t a) (asks : isAsking 
   unfolding entry
   settled-is = ⊎-elim owed owing (either (reached t (row t i .position)))
     where
-      held : Held (t .sum) (t .total) (row t i) (getD (a .entries) i absent)
+      held : Held (t .head .sum) (t .head .total) (row t i) (getD (a .entries) i absent)
       held = live-at t a tied i here .held i
 
       weighs : 1 ≤ rowWeight (row t i)
       weighs = tied .matched .alike i .weighs here
 
       owed : reached t (row t i .position) ≡ true → settled (getD (a .entries) i absent) ≡ reached t (row t i .position)
-      owed e = settled-yes held weighs (reached-yes t (row t i .position) e) ∙ sym e
+      owed e = settled-yes held weighs (reached-yes (row t i .position) (t .head .total) (t .head .sum) e) ∙ sym e
 
       owing : reached t (row t i .position) ≡ false → settled (getD (a .entries) i absent) ≡ reached t (row t i .position)
       owing e =
-          ⊎-elim (λ k. absurd (clash (yes-reached t (row t i .position) (yes-settled held weighs k)) e)) (λ k. k ∙ sym e)
+          ⊎-elim (λ k. absurd (clash (yes-reached (row t i .position) (t .head .total) (t .head .sum) (yes-settled held weighs k)) e)) (λ k. k ∙ sym e)
           (either (settled (getD (a .entries) i absent)))
 
   pub left-tied : Tied (placed t i (leaving t (row t i))) (Acc.left a i)
   unfolding Acc.left leaving entry
   left-tied = rw settled-is (by (reached t (row t i .position)) refl)
     where
-      by : (b : Bool) → reached t (row t i .position) ≡ b → Tied (placed t i (cond b blank (gone (row t i)))) (cond b (Acc.freed a i) (record { entries = set (a .entries) i (goingAway (getD (a .entries) i absent)); virtual = a .virtual }))
-      by true e = freeing t a i tied here (reached-yes t (row t i .position) e)
+      by : (b : Bool) → reached t (row t i .position) ≡ b → Tied (placed t i (cond b blank (gone (row t i)))) (cond b (Acc.freed a i) (record { entries = set (a .entries) i (goingAway (getD (a .entries) i absent)); virtual = a .virtual; terms = a .terms }))
+      by true e = freeing t a i tied here (reached-yes (row t i .position) (t .head .total) (t .head .sum) e)
       by false e =
           kept-tied t a i tied (present-inside t i here) (gone (row t i)) (goingAway (getD (a .entries) i absent)) (going-part (row t i) here) refl
           (gone-alike (row t i) (getD (a .entries) i absent) here (tied .matched .alike i))
@@ -182,7 +188,7 @@ module _ (t : Table) (a : Account) (i : ℕ) (tied : Tied t a) (asks : isAsking 
   left-clocked = by (reached t (row t i .position)) refl
     where
       by : (b : Bool) → reached t (row t i .position) ≡ b → Clocked t (placed t i (cond b blank (gone (row t i))))
-      by true e = freed-clocked t i (tied .matched .sums) (present-inside t i here) (reached-yes t (row t i .position) e)
+      by true e = freed-clocked t i (tied .matched .sums) (present-inside t i here) (reached-yes (row t i .position) (t .head .total) (t .head .sum) e)
       by false e =
           kept-clocked t a i tied (present-inside t i here) (gone (row t i)) (goingAway (entry a i)) (going-part (row t i) here) refl
           (gone-alike (row t i) (entry a i) here (entry-alike t a i tied))

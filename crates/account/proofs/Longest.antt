@@ -1,9 +1,10 @@
 -- The account's longest request is the longest that the queue's row has had open in any table since the queue joined: a change that does not name
 -- the queue leaves what is noted of it, and one that does opens the request that the row then shows.
-use mathlib.Core.Path.{_≡_, refl, ap, sym, subst⁻¹, _∙_}
 use mathlib.Core.Bool.{Bool, true, false, cond, _||_}
 use mathlib.Core.List.{List, [], _∷_}
 use mathlib.Core.Logic.{_≢_}
+use mathlib.Core.Option.{none}
+use mathlib.Core.Path.{_≡_, refl, ap, sym, subst⁻¹, _∙_}
 use Prim.Native.Nat.{ℕ, _+_, _≤_, _<_, max}
 use native.Mathlib.Decide.{ℕ-discrete}
 use native.Mathlib.Omega.{arith}
@@ -14,34 +15,36 @@ use borrow.Author.Tests.{eqb-true, eqb-false}
 use Rattle.laws.proofs.Tests.{clash}
 use Rattle.rows.specs.declared.State.{State}
 use Rattle.rows.specs.declared.State.the-variants.{Free, Going, Asking}
-use Rattle.rows.specs.Numbers.{queues, lengthMeant}
+use Rattle.rows.specs.declared.Terms.{Terms}
+use Rattle.rows.specs.Numbers.{queues}
 use Rattle.rows.specs.Row.{isFree, isGoing}
-use Rattle.share.specs.declared.Event.{Event}
-use Rattle.share.specs.declared.Event.the-variants.{Fresh, Join, Leave, Reweight, Length, Grant, Return}
-use Rattle.share.specs.declared.Refusal.{Refusal}
+use Rattle.head.specs.declared.Event.{Event}
+use Rattle.head.specs.declared.Event.the-variants.{Fresh, Join, Leave, Reweight, Length, Grant, Return}
+use Rattle.head.specs.declared.Refusal.{Refusal}
+use Rattle.head.specs.Refusals.{firstOf}
 use Rattle.share.specs.declared.Reply.{Reply}
 use Rattle.share.specs.declared.Table.{Table}
+use Rattle.share.specs.Asks.{Joins, Reweights, Returns}
+use Rattle.share.specs.Calls.{refused, step, doneBy, checksOf}
+use Rattle.share.specs.Events.{emptyTable, joined, left, reweighted, granted}
 use Rattle.share.specs.Table.{row}
-use Rattle.share.specs.Events.{emptyTable, joined, left, reweighted, granted, returned}
-use Rattle.share.specs.Calls.{refused, renewReply, joinReply, leaveReply, reweightReply, lengthReply, grantReply, returnReply}
-use Rattle.share.specs.Runs.{step}
-use Rattle.share.proofs.Accepted.{Joins, join-accepted, leave-accepted, Reweights, reweight-accepted, length-accepted, Returns, return-accepted}
-use Rattle.share.proofs.Kept.{holding}
-use Rattle.calls.proofs.Calls.{call-cases}
+use Rattle.share.proofs.Accepted.{join-accepted, leave-accepted, reweight-accepted, length-accepted, return-accepted}
+use Rattle.share.proofs.Charges.{holding}
+use Rattle.calls.proofs.Replies.{call-cases}
 use Rattle.fractions.specs.Fraction.{Fraction, whole, nothing, minus}
-use Rattle.account.specs.Changes.{joins, leaves}
-use Rattle.account.specs.Account as Acc
 use Rattle.account.specs.Account.{Entry, absent, present, Queue, Account, entry, isAbsent, weightIn, credited, allGain, reopened, servedMore, settled, goingAway, newcomer, enteredBeside, enteredAlone, noOne}
 use Rattle.account.specs.Books.{Clears, Books, none-left, accountFrom}
+use Rattle.account.specs.Changes.{joins, leaves}
+use Rattle.account.specs.Counted.{countedOf, counted, changes, accountOf}
 use Rattle.account.specs.Longest.{openLength, longestAfter, longestSeen}
-use Rattle.account.specs.Runs.{accepted, countedOf, counted, changes, accountOf}
 use Rattle.account.specs.Same.{unpriced}
-use Rattle.account.proofs.Match.{Requested}
-use Rattle.account.proofs.Tied.{Tied}
-use Rattle.account.proofs.Leaving.{at-replicate, fresh-tied}
 use Rattle.account.proofs.Clearing.{account-books}
-use Rattle.account.proofs.Simulation.{leave-tied, books-one, books-two, books-split, not-accepted, refused-counts, step-tied}
+use Rattle.account.proofs.Leaving.{at-replicate, fresh-tied}
+use Rattle.account.proofs.Match.{Requested}
 use Rattle.account.proofs.Orders.{gained-notes, gained-length, charged-notes, rest-gone, rest-other, freed-notes, clears-keep, unpriced-absent}
+use Rattle.account.proofs.Simulation.{leave-tied, books-one, books-two, books-split, refused-counts, step-tied, meantIn}
+use Rattle.account.proofs.Tied.{Tied}
+use Rattle.account.specs.Account as Acc
 
 -- of an entry: the longest request noted, and the one that is open
 abbrev longestOf : Entry → ℕ
@@ -157,7 +160,7 @@ module _ (a : Account) (i j : ℕ) (apart : j ≢ i) where
   unfolding Acc.left entry
   left-other = by (settled (entry a i))
     where
-      by : (b : Bool) → unpriced (entry (cond {A = Account} b (Acc.freed a i) (record { entries = set (a .entries) i (goingAway (entry a i)); virtual = a .virtual })) j) ≡ unpriced (entry a j)
+      by : (b : Bool) → unpriced (entry (cond {A = Account} b (Acc.freed a i) (record { entries = set (a .entries) i (goingAway (entry a i)); virtual = a .virtual; terms = a .terms })) j) ≡ unpriced (entry a j)
       by true = freed-notes a i j ∙ ap unpriced (rest-other a i j apart)
       by false = set-other (a .entries) i j _ apart
 
@@ -171,7 +174,7 @@ module _ (a : Account) (i j : ℕ) (apart : j ≢ i) where
       let gained = allGain (whole used) (weightIn (a .entries)) (a .entries) in
       set-other gained i j (Acc.charged (getD gained i absent) used early) apart ∙ gained-notes (whole used) (weightIn (a .entries)) (a .entries) j
 
-went : (a : Account) (i : ℕ) → i < length (a .entries) → entry (record { entries = set (a .entries) i (goingAway (entry a i)); virtual = a .virtual }) i ≡ goingAway (entry a i)
+went : (a : Account) (i : ℕ) → i < length (a .entries) → entry (record { entries = set (a .entries) i (goingAway (entry a i)); virtual = a .virtual; terms = a .terms }) i ≡ goingAway (entry a i)
 unfolding entry
 went a i inside = getD-set-same (a .entries) i _ absent inside
 
@@ -191,7 +194,7 @@ module _ (a : Account) (i : ℕ) (inside : i < length (a .entries)) where
   unfolding Acc.left
   left-at = by (settled (entry a i))
     where
-      by : (b : Bool) → isAbsent (entry (cond {A = Account} b (Acc.freed a i) (record { entries = set (a .entries) i (goingAway (entry a i)); virtual = a .virtual })) i) ≡ false → unpriced (entry (cond {A = Account} b (Acc.freed a i) (record { entries = set (a .entries) i (goingAway (entry a i)); virtual = a .virtual })) i) ≡ unpriced (goingAway (entry a i))
+      by : (b : Bool) → isAbsent (entry (cond {A = Account} b (Acc.freed a i) (record { entries = set (a .entries) i (goingAway (entry a i)); virtual = a .virtual; terms = a .terms })) i) ≡ false → unpriced (entry (cond {A = Account} b (Acc.freed a i) (record { entries = set (a .entries) i (goingAway (entry a i)); virtual = a .virtual; terms = a .terms })) i) ≡ unpriced (goingAway (entry a i))
       by true here =
           let gone : unpriced (entry (Acc.freed a i) i) ≡ absent = freed-notes a i i ∙ ap unpriced (rest-gone a i) in
           absurd (clash (sym (unpriced-absent (entry (Acc.freed a i) i)) ∙ ap isAbsent gone) here)
@@ -267,9 +270,9 @@ by-test : {f : Entry} (m k : ℕ) (b : Bool) → (b ≡ true → Anew f) → (b 
 by-test m k true anew other same = anew-is (anew refl) same
 by-test m k false anew other same = other refl
 
-begun-longest : (b : Account) (j k : ℕ) → b ≡ noOne → LongestIs (entry b j) k
+begun-longest : (terms : Terms) (b : Account) (j k : ℕ) → b ≡ noOne terms → LongestIs (entry b j) k
 unfolding noOne entry
-begun-longest b j k same =
+begun-longest terms b j k same =
     record {
       noted-is =
           λ here. absurd (clash (ap (λ (x : Account). isAbsent (getD (x .entries) j absent)) same ∙ ap isAbsent (at-replicate queues j absent)) here);
@@ -287,15 +290,15 @@ module _ (t : Table) (a : Account) (ta : Tied t a) (j m : ℕ) (h : LongestIs (e
   unchanged b u none-left tb = later-is (kept-later (entry a j) (open-within ta j)) h (open-is tb j)
 
   refused-longest : (e : Event) (why : Refusal) → Noted e (refused t why)
-  unfolding longestAfter accepted
-  refused-longest e why b way tb = rw (not-accepted why) (unchanged b t (rw (refused-counts t e why) at way) tb)
+  unfolding longestAfter
+  refused-longest e why b way tb = unchanged b t (rw (refused-counts t e why) at way) tb
 
-  join-longest : (i w l : ℕ) → Joins t i w l → (b : Account) → Clears (Acc.entered a i w (lengthMeant l)) b → Tied (joined t i w l) b → LongestIs (entry b j) (cond (eqb j i) (openLength (row (joined t i w l) j .state)) (max m (openLength (row (joined t i w l) j .state))))
+  join-longest : (i w l : ℕ) → Joins t i w l → (b : Account) → Clears (Acc.entered a i w (meantIn a l)) b → Tied (joined t i w l) b → LongestIs (entry b j) (cond (eqb j i) (openLength (row (joined t i w l) j .state)) (max m (openLength (row (joined t i w l) j .state))))
   join-longest i w l ok b way tb =
       by-test m (openLength (row (joined t i w l) j .state)) (eqb j i)
-      (λ e. subst⁻¹ (λ (k : ℕ). Anew (entry b k)) (eqb-true j i e) (joined-anew t a ta i (within i (ok .inside)) b j w (lengthMeant l) way))
+      (λ e. subst⁻¹ (λ (k : ℕ). Anew (entry b k)) (eqb-true j i e) (joined-anew t a ta i (within i (ok .inside)) b j w (meantIn a l) way))
       (λ e.
-      later-is (unnamed t a ta b j (joined-noted t a ta i (within i (ok .inside)) b j w (lengthMeant l) way (eqb-false j i e))) h (open-is tb j))
+      later-is (unnamed t a ta b j (joined-noted t a ta i (within i (ok .inside)) b j w (meantIn a l) way (eqb-false j i e))) h (open-is tb j))
       (open-is tb j)
 
   reweight-longest : (i w l : ℕ) → Reweights t i w l → (b : Account) → Books a (leaves i ∷ joins i w l ∷ []) b → Tied (reweighted t i w l) b → LongestIs (entry b j) (cond (eqb j i) (openLength (row (reweighted t i w l) j .state)) (max m (openLength (row (reweighted t i w l) j .state))))
@@ -305,10 +308,10 @@ module _ (t : Table) (a : Account) (ta : Tied t a) (j m : ℕ) (h : LongestIs (e
       let tc = leave-tied t a c i ta (r .leaves) (halves .1) in
       let here : i < length (c .entries) = omega (arith, r .leaves .inside, tc .matched .entries-each) in
       let there = within i (r .leaves .inside) in
-      let second = joined-noted (left t i) c tc i here b j w (lengthMeant l) (halves .2) in
+      let second = joined-noted (left t i) c tc i here b j w (meantIn c l) (halves .2) in
       let first = left-noted t a ta i there c j (halves .1) in
       by-test m (openLength (row (reweighted t i w l) j .state)) (eqb j i)
-      (λ e. subst⁻¹ (λ (k : ℕ). Anew (entry b k)) (eqb-true j i e) (joined-anew (left t i) c tc i here b j w (lengthMeant l) (halves .2)))
+      (λ e. subst⁻¹ (λ (k : ℕ). Anew (entry b k)) (eqb-true j i e) (joined-anew (left t i) c tc i here b j w (meantIn c l) (halves .2)))
       (λ e.
       later-is
       (unnamed t a ta b j
@@ -322,32 +325,23 @@ module _ (t : Table) (a : Account) (ta : Tied t a) (j m : ℕ) (h : LongestIs (e
   unfolding entry
   holder-asks i used r = sym (ta .matched .alike i .going) ∙ ap isGoing (holding t i used r .is-asking)
 
+  done-longest : (e : Event) → firstOf (checksOf t e) ≡ none → Noted e (doneBy t e)
+  unfolding countedOf longestAfter
+  done-longest (Fresh terms) fine b way tb = begun-longest terms b j _ (books-one way)
+  done-longest (Join i w l) fine b way tb = join-longest i w l (join-accepted t i w l fine) b (books-one way) tb
+  done-longest (Leave i) fine b way tb =
+      later-is (left-later t a ta i (within i (leave-accepted t i fine .inside)) b j (books-one way) (ℕ-discrete j i)) h (open-is tb j)
+  done-longest (Reweight i w l) fine b way tb = reweight-longest i w l (reweight-accepted t i w l fine) b way tb
+  done-longest (Length i l) fine b way tb =
+      later-is (lengthened-later t a ta i (within i (length-accepted t i l fine .leaves .inside)) b j (meantIn a l) (books-one way) (ℕ-discrete j i)) h (open-is tb j)
+  done-longest Grant fine b way tb = unchanged b (granted t) way tb
+  done-longest (Return i used early) fine b way tb =
+      let r = return-accepted t i used early fine in
+      later-is (returned-later t a ta i (within i (r .inside)) b j used early (books-one way) (holder-asks i used r) (ℕ-discrete j i)) h (open-is tb j)
+
   step-longest : (e : Event) → Noted e (step t e)
-  unfolding step renewReply joinReply leaveReply reweightReply lengthReply grantReply returnReply countedOf accepted longestAfter
-  step-longest (Fresh limit) =
-      call-cases (Noted (Fresh limit)) _ t _ (λ why e. refused-longest (Fresh limit) why) (λ e b way tb. begun-longest b j _ (books-one way))
-  step-longest (Join i w l) =
-      call-cases (Noted (Join i w l)) _ t _ (λ why e. refused-longest (Join i w l) why)
-      (λ e b way tb. join-longest i w l (join-accepted t i w l e) b (books-one way) tb)
-  step-longest (Leave i) =
-      call-cases (Noted (Leave i)) _ t _ (λ why e. refused-longest (Leave i) why)
-      (λ e b way tb.
-      later-is (left-later t a ta i (within i (leave-accepted t i e .inside)) b j (books-one way) (ℕ-discrete j i)) h (open-is tb j))
-  step-longest (Reweight i w l) =
-      call-cases (Noted (Reweight i w l)) _ t _ (λ why e. refused-longest (Reweight i w l) why)
-      (λ e b way tb. reweight-longest i w l (reweight-accepted t i w l e) b way tb)
-  step-longest (Length i l) =
-      call-cases (Noted (Length i l)) _ t _ (λ why e. refused-longest (Length i l) why)
-      (λ e b way tb.
-      later-is (lengthened-later t a ta i (within i (length-accepted t i l e .leaves .inside)) b j (lengthMeant l) (books-one way) (ℕ-discrete j i)) h
-      (open-is tb j))
-  step-longest Grant =
-      call-cases (Noted Grant) _ t _ (λ why e. refused-longest Grant why) (λ e b way tb. unchanged b (granted t) way tb)
-  step-longest (Return i used early) =
-      call-cases (Noted (Return i used early)) _ t _ (λ why e. refused-longest (Return i used early) why)
-      (λ e b way tb.
-      later-is (returned-later t a ta i (within i (return-accepted t i used e .inside)) b j used early (books-one way) (holder-asks i used (return-accepted t i used e)) (ℕ-discrete j i)) h
-      (open-is tb j))
+  unfolding step
+  step-longest e = call-cases (Noted e) (checksOf t e) t (doneBy t e) (λ why is. refused-longest e why) (done-longest e)
 
 -- and every run
 run-longest : (es : List Event) (t : Table) (a b : Account) (j m : ℕ) → Tied t a → LongestIs (entry a j) m → Books a (counted t es) b → LongestIs (entry b j) (longestSeen t es j m)
@@ -358,10 +352,10 @@ run-longest (e ∷ es) t a b j m ta h way =
     let tc = step-tied t a e ta c (parts .1) in
     run-longest es (step t e .table) c b j (longestAfter (step t e) e j m) tc (step-longest t a ta j m h e c (parts .1) tc) (parts .2)
 
-pub longest-is-seen : (limit : ℕ) (calls : List Event) (i : ℕ) (q : Queue) → entry (accountOf limit calls) i ≡ present q → q .longest ≡ longestSeen (emptyTable limit) calls i 0
+pub longest-is-seen : (terms : Terms) (calls : List Event) (i : ℕ) (q : Queue) → entry (accountOf terms calls) i ≡ present q → q .longest ≡ longestSeen (emptyTable terms) calls i 0
 unfolding accountOf changes
-longest-is-seen limit calls i q e =
-    let start : LongestIs (entry noOne i) 0 = begun-longest noOne i 0 refl in
+longest-is-seen terms calls i q e =
+    let start : LongestIs (entry (noOne terms) i) 0 = begun-longest terms (noOne terms) i 0 refl in
     let noted-so =
-    run-longest calls (emptyTable limit) noOne (accountFrom noOne (changes limit calls)) i 0 (fresh-tied limit) start (account-books noOne (changes limit calls)) in
+    run-longest calls (emptyTable terms) (noOne terms) (accountFrom (noOne terms) (changes terms calls)) i 0 (fresh-tied terms) start (account-books (noOne terms) (changes terms calls)) in
     sym (ap longestOf e) ∙ noted-so .noted-is (ap isAbsent e)

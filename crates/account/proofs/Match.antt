@@ -1,8 +1,8 @@
 -- Table and account side by side, row by row, but for the fractions: who is present, who is going, the weights and the requests. From that and
 -- the true sums of the table, W is the same in both. It is kept by setting a row in both and by giving every entry a gain.
-use mathlib.Core.Path.{_≡_, refl, _∙_}
 use mathlib.Core.Bool.{false, cond}
 use mathlib.Core.List.{List, [], _∷_}
+use mathlib.Core.Path.{_≡_, refl, _∙_}
 use Prim.Native.Nat.{ℕ, zero, suc, _+_, _*_, _≤_, _<_}
 use native.Mathlib.Decide.{ℕ-discrete}
 use native.Mathlib.Omega.{arith}
@@ -16,29 +16,31 @@ use Rattle.rows.specs.declared.Row.{Row}
 use Rattle.rows.specs.declared.State.{State}
 use Rattle.rows.specs.declared.State.the-variants.{Free, Going, Asking}
 use Rattle.rows.specs.Numbers.{queues}
-use Rattle.rows.specs.Row.{blank, isFree, isGoing, weightIn as rowWeight, momentIn as rowMoment}
+use Rattle.rows.specs.Row.{blank, isFree, isGoing}
+use Rattle.head.specs.Head.{summed}
 use Rattle.share.specs.declared.Table.{Table}
-use Rattle.share.specs.Table.{row, trueTotal, trueSum, placed}
-use Rattle.share.proofs.Placed.{TrueSums, placed-length, placed-same, placed-other, placed-true}
+use Rattle.share.specs.Table.{row, trueTotal, trueSum, placed, TrueSums}
+use Rattle.share.proofs.Placed.{placed-length, placed-same, placed-other, placed-true}
 use Rattle.fractions.specs.Fraction.{Fraction}
-use Rattle.account.specs.Account as Acc
 use Rattle.account.specs.Account.{Entry, absent, present, isAbsent, weightOf, weightIn, credited, gaining, allGain}
+use Rattle.rows.specs.Row.{blank, isFree, isGoing, weightIn as rowWeight, momentIn as rowMoment}
+use Rattle.account.specs.Account as Acc
 
 -- an asking row's request, as the account has it from the lengths in the run
-pub record Kept (length served next longest : ℕ) (q : Request) : Type 0 where
+pub record SameRequest (length served next longest : ℕ) (q : Request) : Type 0 where
   pub same-length : q .length ≡ length
   pub same-served : q .served ≡ served
   pub same-next : q .next ≡ next
   pub no-longer : length ≤ longest
 
-abbrev pub KeptAs : (length served next longest : ℕ) → State → Type 0
-KeptAs length served next longest Free = Unit {0}
-KeptAs length served next longest Going = Unit {0}
-KeptAs length served next longest (Asking q) = Kept length served next longest q
+abbrev pub SameRequestAs : (length served next longest : ℕ) → State → Type 0
+SameRequestAs length served next longest Free = Unit {0}
+SameRequestAs length served next longest Going = Unit {0}
+SameRequestAs length served next longest (Asking q) = SameRequest length served next longest q
 
 abbrev pub Requested : Entry → State → Type 0
 Requested absent s = Unit {0}
-Requested (present e) s = KeptAs (e .length) (e .served) (e .next) (e .longest) s
+Requested (present e) s = SameRequestAs (e .length) (e .served) (e .next) (e .longest) s
 
 pub record Alike (r : Row) (e : Entry) : Type 0 where
   pub free : isFree (r .state) ≡ isAbsent e
@@ -70,20 +72,24 @@ same-sums f g [] (y ∷ ys) d e l h = absurd (omega arith)
 same-sums f g (x ∷ xs) [] d e l h = absurd (omega arith)
 same-sums f g (x ∷ xs) (y ∷ ys) d e l h = omega (arith, h zero, same-sums f g xs ys d e (omega arith) (λ j. h (suc j)))
 
-pub same-weight : {t : Table} {es : List Entry} → Match t es → weightIn es ≡ t .total
+pub same-weight : {t : Table} {es : List Entry} → Match t es → weightIn es ≡ t .head .total
 unfolding weightIn trueTotal row
 same-weight {t} {es} m =
     let same = same-sums rowWeight weightOf (t .rows) es blank absent (omega (arith, m .rows-each, m .entries-each)) (λ j. m .alike j .weight) in
     omega (arith, m .sums .total-true, same)
 
+pub placed-terms : (t : Table) (i : ℕ) (r : Row) → placed t i r .head .terms ≡ t .head .terms
+unfolding placed summed
+placed-terms t i r = refl
+
 -- what setting a row does to W and A, with nothing cut off
 module _ (t : Table) (i : ℕ) (r : Row) (sums : TrueSums t) (inside : i < length (t .rows)) where
-  pub placed-total : placed t i r .total + rowWeight (row t i) ≡ t .total + rowWeight r
-  unfolding placed row trueTotal
+  pub placed-total : placed t i r .head .total + rowWeight (row t i) ≡ t .head .total + rowWeight r
+  unfolding placed summed row trueTotal
   placed-total = omega (arith, sums .total-true, sum-at rowWeight (t .rows) i blank inside)
 
-  pub placed-sum : placed t i r .sum + rowWeight (row t i) * row t i .position ≡ t .sum + rowWeight r * r .position
-  unfolding placed row trueSum
+  pub placed-sum : placed t i r .head .sum + rowWeight (row t i) * row t i .position ≡ t .head .sum + rowWeight r * r .position
+  unfolding placed summed row trueSum
   placed-sum =
       omega (arith, sums .sum-true, sum-at rowMoment (t .rows) i blank inside, moment-is r, moment-is (getD (t .rows) i blank))
 

@@ -1,9 +1,10 @@
 -- The order in which the account frees rows makes no difference. Two accounts of one run are tied to one table, so they agree on who is present
 -- and, as fractions, on every account and on V; what they noted besides is the same, since freeing a row notes nothing.
-use mathlib.Core.Path.{_≡_, refl, ap, sym, _∙_}
 use mathlib.Core.Bool.{Bool, true, false, cond, _||_}
 use mathlib.Core.List.{List, [], _∷_}
 use mathlib.Core.Logic.{_≢_, ⊎-elim}
+use mathlib.Core.Option.{none}
+use mathlib.Core.Path.{_≡_, refl, ap, sym, _∙_}
 use Prim.Native.Nat.{ℕ, _+_, _≤_, _<_}
 use native.Mathlib.Decide.{ℕ-discrete}
 use native.Mathlib.Omega.{arith}
@@ -11,33 +12,34 @@ use lib.Dec.{leb, eqb}
 use lib.ListN.{length, getD, set, length-map, List·getD-eq-default}
 use lib.Seq.{getD-set-same, getD-set-other, set-out}
 use Rattle.laws.proofs.Tests.{clash, le-or-lt}
-use Rattle.rows.specs.Numbers.{lengthMeant}
+use Rattle.rows.specs.declared.Terms.{Terms}
 use Rattle.rows.specs.Row.{isFree}
-use Rattle.share.specs.declared.Event.{Event}
-use Rattle.share.specs.declared.Event.the-variants.{Fresh, Join, Leave, Reweight, Length, Grant, Return}
-use Rattle.share.specs.declared.Refusal.{Refusal}
+use Rattle.head.specs.declared.Event.{Event}
+use Rattle.head.specs.declared.Event.the-variants.{Fresh, Join, Leave, Reweight, Length, Grant, Return}
+use Rattle.head.specs.declared.Refusal.{Refusal}
+use Rattle.head.specs.Refusals.{firstOf}
 use Rattle.share.specs.declared.Reply.{Reply}
 use Rattle.share.specs.declared.Table.{Table}
-use Rattle.share.specs.Table.{row}
+use Rattle.share.specs.Asks.{Reweights}
+use Rattle.share.specs.Calls.{refused, step, doneBy, checksOf}
 use Rattle.share.specs.Events.{emptyTable, joined, left, reweighted, lengthSet, returned}
-use Rattle.share.specs.Calls.{refused, renewReply, joinReply, leaveReply, reweightReply, lengthReply, grantReply, returnReply}
-use Rattle.share.specs.Runs.{step}
-use Rattle.share.proofs.Accepted.{Reweights, reweight-accepted}
-use Rattle.calls.proofs.Calls.{call-cases}
+use Rattle.share.specs.Table.{row}
+use Rattle.share.proofs.Accepted.{reweight-accepted}
+use Rattle.calls.proofs.Replies.{call-cases}
 use Rattle.fractions.specs.Fraction.{Fraction, whole, nothing, minus, _~_}
-use Rattle.fractions.proofs.Values.{same-value}
 use Rattle.fractions.proofs.Laws.{turned, through, at-most-same}
-use Rattle.account.specs.Changes.{Change, begins, joins, leaves, lengthens, returns, endsInRelease}
-use Rattle.account.specs.Account as Acc
+use Rattle.fractions.proofs.Values.{same-value}
 use Rattle.account.specs.Account.{Entry, absent, present, Queue, Account, entry, isAbsent, owedTo, weightIn, credited, gaining, allGain, reopened, servedMore, rest, settled, goingAway, newcomer, enteredBeside, enteredAlone, noOne, made}
 use Rattle.account.specs.Books.{Clears, BookedAs, Books, none-left}
-use Rattle.account.specs.Runs.{accepted, countedOf, counted, changes, tableAfter}
+use Rattle.account.specs.Changes.{Change, begins, joins, leaves, lengthens, returns, endsInRelease}
+use Rattle.account.specs.Counted.{countedOf, counted, changes, tableAfter}
 use Rattle.account.specs.Same.{noted, unpriced, Same}
-use Rattle.account.proofs.Match.{same-weight, gain-at}
-use Rattle.account.proofs.Tied.{Tied}
 use Rattle.account.proofs.Leaving.{fresh-tied}
-use Rattle.account.proofs.Simulation.{leave-tied, books-one, books-two, books-split, refused-counts, step-tied, tied-run}
+use Rattle.account.proofs.Match.{same-weight, gain-at}
 use Rattle.account.proofs.Reports.{lag-account}
+use Rattle.account.proofs.Simulation.{leave-tied, books-one, books-two, books-split, refused-counts, step-tied, tied-run, meantIn, same-meant}
+use Rattle.account.proofs.Tied.{Tied}
+use Rattle.account.specs.Account as Acc
 
 -- an entry without its account is short of nothing else
 pub noted-all : (q : Queue) → _≡_ {A = Queue} (record { weight = noted q .weight; owed = q .owed; going = noted q .going; length = noted q .length; served = noted q .served; next = noted q .next; longest = noted q .longest }) q
@@ -106,6 +108,9 @@ module _ (t : Table) (a b : Account) (ta : Tied t a) (tb : Tied t b) where
   same-W : weightIn (a .entries) ≡ weightIn (b .entries)
   same-W = same-weight (ta .matched) ∙ sym (same-weight (tb .matched))
 
+  same-lengths : (l : ℕ) → meantIn a l ≡ meantIn b l
+  same-lengths l = same-meant t a l ta ∙ sym (same-meant t b l tb)
+
   -- a change before its release
   module _ (h : Twins (a .entries) (b .entries)) where
     returned-twins : (i used : ℕ) (early : Bool) → Twins (Acc.returned a i used early .entries) (Acc.returned b i used early .entries)
@@ -128,7 +133,7 @@ module _ (t : Table) (a b : Account) (ta : Tied t a) (tb : Tied t b) where
     unfolding Acc.left entry
     left-twins i = rw (same-settled i) (by (settled (getD (b .entries) i absent)))
       where
-        by : (c : Bool) → Twins (cond {A = Account} c (Acc.freed a i) (record { entries = set (a .entries) i (goingAway (getD (a .entries) i absent)); virtual = a .virtual }) .entries) (cond {A = Account} c (Acc.freed b i) (record { entries = set (b .entries) i (goingAway (getD (b .entries) i absent)); virtual = b .virtual }) .entries)
+        by : (c : Bool) → Twins (cond {A = Account} c (Acc.freed a i) (record { entries = set (a .entries) i (goingAway (getD (a .entries) i absent)); virtual = a .virtual; terms = a .terms }) .entries) (cond {A = Account} c (Acc.freed b i) (record { entries = set (b .entries) i (goingAway (getD (b .entries) i absent)); virtual = b .virtual; terms = b .terms }) .entries)
         by true = freed-twins i
         by false =
             set-twins i _ _ (a .entries) (b .entries) same-length
@@ -151,10 +156,10 @@ module _ (t : Table) (a b : Account) (ta : Tied t a) (tb : Tied t b) where
         (next-notes (getD (a .entries) i absent) n ∙ ap (λ (x : Entry). unpriced (Acc.nextSet x n)) (h .each i) ∙ sym (next-notes (getD (b .entries) i absent) n)) h
 
     made-twins : (c : Change) → Twins (made a c .entries) (made b c .entries)
-    made-twins begins = record { each = λ j. refl }
-    made-twins (joins i w l) = entered-twins i w (lengthMeant l)
+    made-twins (begins terms) = record { each = λ j. refl }
+    made-twins (joins i w l) = rw (same-lengths l) (entered-twins i w (meantIn b l))
     made-twins (leaves i) = left-twins i
-    made-twins (lengthens i l) = lengthened-twins i (lengthMeant l)
+    made-twins (lengthens i l) = rw (same-lengths l) (lengthened-twins i (meantIn b l))
     made-twins (returns i used early) = returned-twins i used early
 
 -- a release keeps what is noted of whoever is still there
@@ -243,24 +248,19 @@ module _ (t : Table) (a b : Account) (ta : Tied t a) (tb : Tied t b) (h : Twins 
       booked-twins (reweighted t i w l) (made (p .0) (joins i w l)) (made (q .0) (joins i w l)) c d true (p .2) (q .2) tc td
       (made-twins (left t i) (p .0) (q .0) tp tq mid (joins i w l))
 
+  done-twins : (e : Event) → firstOf (checksOf t e) ≡ none → Twinned e (doneBy t e)
+  unfolding countedOf
+  done-twins (Fresh terms) fine = one-change (emptyTable terms) (begins terms)
+  done-twins (Join i w l) fine = one-change (joined t i w l) (joins i w l)
+  done-twins (Leave i) fine = one-change (left t i) (leaves i)
+  done-twins (Reweight i w l) fine = reweigh-twins i w l (reweight-accepted t i w l fine)
+  done-twins (Length i l) fine = one-change (lengthSet t i l) (lengthens i l)
+  done-twins Grant fine = λ c d way through′ tc td. nothing-twins h way through′
+  done-twins (Return i used early) fine = one-change (returned t i used early) (returns i used early)
+
   step-twins : (e : Event) → Twinned e (step t e)
-  unfolding step renewReply joinReply leaveReply reweightReply lengthReply grantReply returnReply countedOf accepted
-  step-twins (Fresh limit) =
-      call-cases (Twinned (Fresh limit)) _ t _ (λ why e. refused-twins (Fresh limit) why) (λ e. one-change (emptyTable limit) begins)
-  step-twins (Join i w l) =
-      call-cases (Twinned (Join i w l)) _ t _ (λ why e. refused-twins (Join i w l) why) (λ e. one-change (joined t i w l) (joins i w l))
-  step-twins (Leave i) =
-      call-cases (Twinned (Leave i)) _ t _ (λ why e. refused-twins (Leave i) why) (λ e. one-change (left t i) (leaves i))
-  step-twins (Reweight i w l) =
-      call-cases (Twinned (Reweight i w l)) _ t _ (λ why e. refused-twins (Reweight i w l) why)
-      (λ e. reweigh-twins i w l (reweight-accepted t i w l e))
-  step-twins (Length i l) =
-      call-cases (Twinned (Length i l)) _ t _ (λ why e. refused-twins (Length i l) why) (λ e. one-change (lengthSet t i l) (lengthens i l))
-  step-twins Grant =
-      call-cases (Twinned Grant) _ t _ (λ why e. refused-twins Grant why) (λ e c d way through tc td. nothing-twins h way through)
-  step-twins (Return i used early) =
-      call-cases (Twinned (Return i used early)) _ t _ (λ why e. refused-twins (Return i used early) why)
-      (λ e. one-change (returned t i used early) (returns i used early))
+  unfolding step
+  step-twins e = call-cases (Twinned e) (checksOf t e) t (doneBy t e) (λ why is. refused-twins e why) (done-twins e)
 
 -- and every run
 run-twins : (es : List Event) (t : Table) (a b c d : Account) → Tied t a → Tied t b → Twins (a .entries) (b .entries) → Books a (counted t es) c → Books b (counted t es) d → Twins (c .entries) (d .entries)
@@ -274,16 +274,17 @@ run-twins (e ∷ es) t a b c d ta tb h way through =
     let tq = step-tied t b e tb (q .0) (q .1) in
     run-twins es (step t e .table) (p .0) (q .0) c d tp tq (step-twins t a b ta tb h e (p .0) (q .0) (p .1) (q .1) tp tq) (p .2) (q .2)
 
-pub any-order : (limit : ℕ) (calls : List Event) (a b : Account) → Books noOne (changes limit calls) a → Books noOne (changes limit calls) b → Same a b
+pub any-order : (terms : Terms) (calls : List Event) (a b : Account) → Books (noOne terms) (changes terms calls) a → Books (noOne terms) (changes terms calls) b → Same a b
 unfolding changes entry
-any-order limit calls a b way through =
-    let ta = tied-run limit calls a way in
-    let tb = tied-run limit calls b through in
+any-order terms calls a b way through =
+    let ta = tied-run terms calls a way in
+    let tb = tied-run terms calls b through in
     record {
-      entries-same = run-twins calls (emptyTable limit) noOne noOne a b (fresh-tied limit) (fresh-tied limit) (record { each = λ j. refl }) way through .each;
-      owed-same = same-owed (tableAfter limit calls) a b ta tb;
+      terms-same = ta .same-terms ∙ sym (tb .same-terms);
+      entries-same = run-twins calls (emptyTable terms) (noOne terms) (noOne terms) a b (fresh-tied terms) (fresh-tied terms) (record { each = λ j. refl }) way through .each;
+      owed-same = same-owed (tableAfter terms calls) a b ta tb;
       virtual-same =
           λ some.
-          let W : 0 < tableAfter limit calls .total = omega (arith, same-weight (ta .matched)) in
+          let W : 0 < tableAfter terms calls .head .total = omega (arith, same-weight (ta .matched)) in
           same-value (ta .live W .clock) (tb .live W .clock);
     }

@@ -1,8 +1,8 @@
 -- Table and account release in lockstep. The sign of an account is the table's test whether V has reached the position, so both find the same
 -- rows due; freeing one moves V by its lag over the weight that is left, in both. The table's release has one end, so the account's has, too.
-use mathlib.Core.Path.{_≡_, refl, ap, sym, subst, _∙_}
 use mathlib.Core.Bool.{true, false}
 use mathlib.Core.Logic.{⊎-elim}
+use mathlib.Core.Path.{_≡_, refl, ap, sym, subst, _∙_}
 use Prim.Native.Nat.{ℕ, _+_, _*_, _≤_, _<_}
 use native.Mathlib.Nat.{mul-le-mul-left, mul-le-mul-right, le-of-mul-le-mul-left}
 use native.Mathlib.Omega.{arith}
@@ -14,21 +14,21 @@ use Rattle.rows.specs.declared.Row.{Row}
 use Rattle.rows.specs.declared.State.{State}
 use Rattle.rows.specs.declared.State.the-variants.{Free, Going, Asking}
 use Rattle.rows.specs.Numbers.{queues, unit}
-use Rattle.rows.specs.Row.{blank, isFree, isGoing, weightIn as rowWeight}
+use Rattle.rows.specs.Row.{blank, isFree, isGoing}
 use Rattle.share.specs.declared.Table.{Table}
-use Rattle.share.specs.Table.{row, trueTotal, AtMostV}
-use Rattle.share.specs.Sound.{Ready}
 use Rattle.share.specs.Release.{freed, Frees, done, one, released}
-use Rattle.share.proofs.Placed.{TrueSums, placed-true}
-use Rattle.share.proofs.Release.{ready-inside, released-frees, frees-released}
+use Rattle.share.specs.Sound.{Ready}
+use Rattle.share.specs.Table.{row, trueTotal, AtMostV, TrueSums}
+use Rattle.share.proofs.Release.{ready-inside, released-frees, frees-released, freed-true}
 use Rattle.share.proofs.Sound.{row-past}
 use Rattle.fractions.specs.Fraction.{Fraction, _⊕_, portion}
 use Rattle.fractions.proofs.Values.{value-nothing, value-at-most, at-most-value}
-use Rattle.account.specs.Account as Acc
 use Rattle.account.specs.Account.{Entry, absent, Account, entry, owedTo, allGain, passedOn, rest, weightLeft, settled}
 use Rattle.account.specs.Books.{due, Clears}
-use Rattle.account.proofs.Match.{Match, same-weight, placed-total, placed-sum, set-both, match-set, match-gain, blank-alike}
+use Rattle.account.proofs.Match.{Match, same-weight, placed-total, placed-sum, set-both, match-set, match-gain, blank-alike, placed-terms}
 use Rattle.account.proofs.Tied.{Held, Live, Tied, Clocked, Moves, moved-clock, moved, blank-held}
+use Rattle.rows.specs.Row.{blank, isFree, isGoing, weightIn as rowWeight}
+use Rattle.account.specs.Account as Acc
 
 -- the sign of an account
 module _ {A W : ℕ} {r : Row} {e : Entry} (held : Held A W r e) (weighs : 1 ≤ rowWeight r) where
@@ -51,7 +51,7 @@ going-present Free e = absurd (clash e refl)
 going-present Going e = refl
 going-present (Asking q) e = refl
 
-pub weight-within : (t : Table) (i : ℕ) → TrueSums t → i < length (t .rows) → rowWeight (row t i) ≤ t .total
+pub weight-within : (t : Table) (i : ℕ) → TrueSums t → i < length (t .rows) → rowWeight (row t i) ≤ t .head .total
 unfolding row trueTotal
 weight-within t i sums inside = omega (arith, sums .total-true, sum-at rowWeight (t .rows) i blank inside)
 
@@ -81,17 +81,21 @@ passed-all f n h = simp (ne-eqb n 0 (λ e. omega arith))
 
 -- the table that a departure leaves
 module _ (t : Table) (i : ℕ) (sums : TrueSums t) (inside : i < length (t .rows)) where
-  pub W-left : freed t i .total + rowWeight (row t i) ≡ t .total
+  pub W-left : freed t i .head .total + rowWeight (row t i) ≡ t .head .total
   unfolding freed rowWeight
   W-left = omega (arith, placed-total t i blank sums inside)
 
-  A-left : freed t i .sum + rowWeight (row t i) * row t i .position ≡ t .sum
+  A-left : freed t i .head .sum + rowWeight (row t i) * row t i .position ≡ t .head .sum
   unfolding freed rowWeight
   A-left = omega (arith, placed-sum t i blank sums inside)
 
-  pub freed-rises : AtMostV t (row t i .position) → t .sum * freed t i .total ≤ freed t i .sum * t .total
+  pub freed-rises : AtMostV t (row t i .position) → t .head .sum * freed t i .head .total ≤ freed t i .head .sum * t .head .total
   freed-rises level =
-      rise-numbers (t .sum) (t .total) (freed t i .sum) (freed t i .total) (rowWeight (row t i)) (row t i .position) A-left W-left level
+      rise-numbers (t .head .sum) (t .head .total) (freed t i .head .sum) (freed t i .head .total) (rowWeight (row t i)) (row t i .position) A-left W-left level
+
+freed-terms : (t : Table) (i : ℕ) → freed t i .head .terms ≡ t .head .terms
+unfolding freed
+freed-terms t i = placed-terms t i blank
 
 module _ (t : Table) (a : Account) (i : ℕ) (tied : Tied t a) (here : isFree (row t i .state) ≡ false) (level : AtMostV t (row t i .position)) where
   inside : i < length (t .rows)
@@ -104,26 +108,26 @@ module _ (t : Table) (a : Account) (i : ℕ) (tied : Tied t a) (here : isFree (r
   unfolding freed rest
   rest-match = match-set t (a .entries) i blank absent numbered blank-alike (tied .matched)
 
-  moves : 0 < freed t i .total → Moves (t .sum) (t .total) (freed t i .sum) (freed t i .total) (owedTo (entry a i)) (freed t i .total)
+  moves : 0 < freed t i .head .total → Moves (t .head .sum) (t .head .total) (freed t i .head .sum) (freed t i .head .total) (owedTo (entry a i)) (freed t i .head .total)
   unfolding entry
   moves h =
       let sums = tied .matched .sums in
-      let before : 0 < t .total = omega (arith, W-left t i sums inside) in
+      let before : 0 < t .head .total = omega (arith, W-left t i sums inside) in
       record {
-        plus = rowWeight (row t i) * t .sum;
-        less = rowWeight (row t i) * (t .total * row t i .position);
-        base = t .total * unit;
+        plus = rowWeight (row t i) * t .head .sum;
+        less = rowWeight (row t i) * (t .head .total * row t i .position);
+        base = t .head .total * unit;
         amount = tied .live before .held i .lags;
         shared = h;
         before = before;
         after = h;
         move =
-            move-numbers (t .sum) (t .total) (freed t i .sum) (freed t i .total) unit (rowWeight (row t i)) (row t i .position)
+            move-numbers (t .head .sum) (t .head .total) (freed t i .head .sum) (freed t i .head .total) unit (rowWeight (row t i)) (row t i .position)
             (A-left t i sums inside) (W-left t i sums inside);
         rises = freed-rises t i sums inside level;
       }
 
-  shared-out : 0 < freed t i .total → Live (freed t i) (record { entries = allGain (owedTo (entry a i)) (freed t i .total) (rest a i); virtual = a .virtual ⊕ portion (owedTo (entry a i)) unit (freed t i .total) })
+  shared-out : 0 < freed t i .head .total → Live (freed t i) (record { entries = allGain (owedTo (entry a i)) (freed t i .head .total) (rest a i); virtual = a .virtual ⊕ portion (owedTo (entry a i)) unit (freed t i .head .total); terms = a .terms })
   unfolding freed rest
   shared-out h =
       let m = moves h in
@@ -132,11 +136,11 @@ module _ (t : Table) (a : Account) (i : ℕ) (tied : Tied t a) (here : isFree (r
         clock = moved-clock m (live .clock);
         held =
             moved m rest-match
-            (set-both (Held (t .sum) (t .total)) t (a .entries) i blank absent inside (omega (arith, numbered, tied .matched .entries-each))
-            (blank-held (t .sum) (t .total) (m .before)) (live .held));
+            (set-both (Held (t .head .sum) (t .head .total)) t (a .entries) i blank absent inside (omega (arith, numbered, tied .matched .entries-each))
+            (blank-held (t .head .sum) (t .head .total) (m .before)) (live .held));
       }
 
-  left-is : weightLeft a i ≡ freed t i .total
+  left-is : weightLeft a i ≡ freed t i .head .total
   unfolding weightLeft
   left-is = same-weight rest-match
 
@@ -144,8 +148,9 @@ module _ (t : Table) (a : Account) (i : ℕ) (tied : Tied t a) (here : isFree (r
   unfolding Acc.freed
   freed-tied =
       record {
+        same-terms = tied .same-terms ∙ sym (freed-terms t i);
         matched = match-gain _ _ rest-match;
-        live = λ h. rw (left-is, passed-all (owedTo (entry a i)) (freed t i .total) h) (shared-out h);
+        live = λ h. rw (left-is, passed-all (owedTo (entry a i)) (freed t i .head .total) h) (shared-out h);
       }
 
 -- a row is due in the account exactly if it is ready in the table
@@ -178,13 +183,13 @@ lockstep {a} (Clears.one i d further) t tied =
 pub released-tied : {a b : Account} (t : Table) → Tied t a → Clears a b → Tied (released t) b
 released-tied {a} {b} t tied way =
     let end = lockstep way t tied in
-    subst (λ (u : Table). Tied u b) (frees-released (end .1)) (end .2)
+    subst (λ (u : Table). Tied u b) (frees-released (tied .matched .sums) (end .1)) (end .2)
 
 -- what a release does to W, A and V
 pub record Falls (t u : Table) : Type 0 where
-  pub total-less : u .total ≤ t .total
-  pub sum-less : u .sum ≤ t .sum
-  pub rises : 0 < u .total → t .sum * u .total ≤ u .sum * t .total
+  pub total-less : u .head .total ≤ t .head .total
+  pub sum-less : u .head .sum ≤ t .head .sum
+  pub rises : 0 < u .head .total → t .head .sum * u .head .total ≤ u .head .sum * t .head .total
 
 chain-numbers : (A W B X C Y : ℕ) → 0 < X → A * X ≤ B * W → B * Y ≤ C * X → A * Y ≤ C * W
 chain-numbers A W B X C Y h a b = le-of-mul-le-mul-left {k = X} (omega (arith, mul-le-mul-right Y a, mul-le-mul-right W b)) h
@@ -196,13 +201,9 @@ falls-on {t} {m} {u} p q =
       sum-less = omega (arith, p .sum-less, q .sum-less);
       rises =
           λ h.
-          let some : 0 < m .total = omega (arith, q .total-less) in
-          chain-numbers (t .sum) (t .total) (m .sum) (m .total) (u .sum) (u .total) some (p .rises some) (q .rises h);
+          let some : 0 < m .head .total = omega (arith, q .total-less) in
+          chain-numbers (t .head .sum) (t .head .total) (m .head .sum) (m .head .total) (u .head .sum) (u .head .total) some (p .rises some) (q .rises h);
     }
-
-freed-true : (t : Table) (i : ℕ) → i < length (t .rows) → TrueSums t → TrueSums (freed t i)
-unfolding freed
-freed-true t i inside sums = placed-true t i blank inside sums
 
 frees-falls : {t u : Table} → Frees t u → TrueSums t → Falls t u
 frees-falls (done calm) sums = record { total-less = omega arith; sum-less = omega arith; rises = λ h. omega arith }
@@ -214,7 +215,7 @@ frees-falls {t} (one i r further) sums =
       sum-less = omega (arith, A-left t i sums inside);
       rises = λ h. freed-rises t i sums inside (r .level);
     })
-    (frees-falls further (freed-true t i inside sums))
+    (frees-falls further (freed-true t i r sums))
 
 pub released-falls : (t : Table) → TrueSums t → Falls t (released t)
 released-falls t sums = frees-falls (released-frees t) sums
@@ -226,6 +227,6 @@ released-clocked t m sums c =
       starts = λ none h. omega (arith, c .starts none (omega (arith, f .total-less)), f .sum-less);
       rises =
           λ h.
-          let some : 0 < m .total = omega (arith, f .total-less) in
-          chain-numbers (t .sum) (t .total) (m .sum) (m .total) (released m .sum) (released m .total) some (c .rises some) (f .rises h);
+          let some : 0 < m .head .total = omega (arith, f .total-less) in
+          chain-numbers (t .head .sum) (t .head .total) (m .head .sum) (m .head .total) (released m .head .sum) (released m .head .total) some (c .rises some) (f .rises h);
     }

@@ -1,30 +1,31 @@
 -- A return: every row gains its part of the ticks and the holder loses them all, which is the move of V and of the holder's position. The holder's
 -- request opened at or below V and is not overrun, so the holder ends less than that request ahead of V, which has risen.
-use mathlib.Core.Path.{_≡_, refl, ap, sym, subst}
 use mathlib.Core.Bool.{Bool, true, false, cond, _||_}
 use mathlib.Core.List.{List}
 use mathlib.Core.Logic.{⊎-elim}
+use mathlib.Core.Path.{_≡_, refl, ap, sym, subst, _∙_}
 use Prim.Native.Nat.{ℕ, _+_, _*_, _≤_, _<_}
 use native.Mathlib.Nat.{mul-pos, mul-le-mul-left, mul-le-mul-right}
 use native.Mathlib.Omega.{arith}
-use lib.ListN.{length, getD, set}
 use lib.Dec.{leb}
+use lib.ListN.{length, getD, set}
 use Rattle.laws.proofs.Tests.{clash, le-or-lt}
 use Rattle.rows.specs.declared.Request.{Request}
 use Rattle.rows.specs.declared.Row.{Row}
 use Rattle.rows.specs.declared.State.the-variants.{Asking}
 use Rattle.rows.specs.Numbers.{queues, unit, maxWeight, stepOf}
-use Rattle.rows.specs.Row.{positionOf, chargedTo, weightIn as rowWeight}
+use Rattle.rows.specs.Requests.{opened, servedTo, charged}
+use Rattle.rows.specs.Row.{positionOf, chargedTo}
 use Rattle.rows.proofs.Steps.{weight-times-step}
 use Rattle.share.specs.declared.Table.{Table}
 use Rattle.share.specs.Table.{row, placed}
-use Rattle.share.specs.Events.{opened, servedTo, charged}
 use Rattle.fractions.specs.Fraction.{whole, _⊕_, portion}
 use Rattle.fractions.proofs.Values.{value-whole, value-minus, value-sum, value-change}
-use Rattle.account.specs.Account as Acc
 use Rattle.account.specs.Account.{Entry, absent, present, Queue, Account, allGain, reopened, servedMore}
-use Rattle.account.proofs.Match.{Alike, Match, same-weight, placed-total, placed-sum, set-both, match-set, match-gain, credited-alike}
+use Rattle.account.proofs.Match.{Alike, Match, same-weight, placed-total, placed-sum, set-both, match-set, match-gain, credited-alike, placed-terms}
 use Rattle.account.proofs.Tied.{Held, Live, Tied, Clocked, Moves, moved-clock, moved}
+use Rattle.rows.specs.Row.{positionOf, chargedTo, weightIn as rowWeight}
+use Rattle.account.specs.Account as Acc
 
 abbrev asking : ℕ → ℕ → Request → Row
 asking w p q = record { weight = w; position = p; state = Asking q }
@@ -136,7 +137,7 @@ charge-numbers A A' w p s U u e step = rw (← step) (omega arith)
 
 -- what the table knows of the holder at a return of so many ticks
 pub record Charges (t : Table) (w p used : ℕ) (q : Request) : Type 0 where
-  pub opens : q .opening * t .total ≤ t .sum
+  pub opens : q .opening * t .head .total ≤ t .head .sum
   pub stands : p ≡ positionOf w q
   pub fits : q .served + used ≤ q .length
   pub light : 1 ≤ w
@@ -156,31 +157,31 @@ module _ (t : Table) (a : Account) (i used : ℕ) (early : Bool) (w p : ℕ) (q 
   unfolding rowWeight
   row-weight = ap rowWeight at
 
-  W-same : u .total ≡ t .total
+  W-same : u .head .total ≡ t .head .total
   unfolding u r
   W-same = omega (arith, placed-total t i r (tied .matched .sums) inside, row-weight, charged-weight w p q used early)
 
-  A-charged : u .sum ≡ t .sum + used * unit
+  A-charged : u .head .sum ≡ t .head .sum + used * unit
   unfolding u r charged chargedTo
   A-charged =
       let e = placed-sum t i r (tied .matched .sums) inside in
-      charge-numbers (t .sum) (u .sum) w p (stepOf w) unit used
+      charge-numbers (t .head .sum) (u .head .sum) w p (stepOf w) unit used
       (rw (row-weight, ap (λ (x : Row). x .position) at, charged-weight w p q used early) at e)
       (weight-times-step w (c .light) (c .heavy))
 
   gained : List Entry
-  gained = allGain (whole used) (t .total) (a .entries)
+  gained = allGain (whole used) (t .head .total) (a .entries)
 
   gained-match : Match t gained
   unfolding gained
-  gained-match = match-gain (whole used) (t .total) (tied .matched)
+  gained-match = match-gain (whole used) (t .head .total) (tied .matched)
 
   holder-alike : Alike (asking w p q) (getD gained i absent)
   holder-alike = subst (λ (x : Row). Alike x (getD gained i absent)) at (gained-match .alike i)
 
-  moves : 0 < u .total → Moves (t .sum) (t .total) (u .sum) (u .total) (whole used) (t .total)
+  moves : 0 < u .head .total → Moves (t .head .sum) (t .head .total) (u .head .sum) (u .head .total) (whole used) (t .head .total)
   moves h =
-      let before : 0 < t .total = omega (arith, W-same) in
+      let before : 0 < t .head .total = omega (arith, W-same) in
       record {
         plus = used;
         less = 0;
@@ -193,7 +194,7 @@ module _ (t : Table) (a : Account) (i used : ℕ) (early : Bool) (w p : ℕ) (q 
         rises = rw (W-same, A-charged) (omega arith);
       }
 
-  holds : Holds (t .sum) (u .total) (u .sum) w p used q
+  holds : Holds (t .head .sum) (u .head .total) (u .head .sum) w p used q
   unfolding positionOf
   holds =
       record {
@@ -205,7 +206,7 @@ module _ (t : Table) (a : Account) (i used : ℕ) (early : Bool) (w p : ℕ) (q 
         charge = A-charged;
       }
 
-  alive : 0 < u .total → Live u (record { entries = set gained i (Acc.charged (getD gained i absent) used early); virtual = a .virtual ⊕ portion (whole used) unit (t .total) })
+  alive : 0 < u .head .total → Live u (record { entries = set gained i (Acc.charged (getD gained i absent) used early); virtual = a .virtual ⊕ portion (whole used) unit (t .head .total); terms = a .terms })
   unfolding u r gained
   alive h =
       let m = moves h in
@@ -214,10 +215,10 @@ module _ (t : Table) (a : Account) (i used : ℕ) (early : Bool) (w p : ℕ) (q 
       record {
         clock = moved-clock m (live .clock);
         held =
-            set-both (Held (u .sum) (u .total)) t gained i r (Acc.charged (getD gained i absent) used early) inside
+            set-both (Held (u .head .sum) (u .head .total)) t gained i r (Acc.charged (getD gained i absent) used early) inside
             (omega (arith, gained-match .entries-each))
             (charged-held (getD gained i absent) early holds holder-alike
-            (subst (λ (x : Row). Held (u .sum) (u .total) x (getD gained i absent)) at (all i)))
+            (subst (λ (x : Row). Held (u .head .sum) (u .head .total) x (getD gained i absent)) at (all i)))
             all;
       }
 
@@ -226,6 +227,7 @@ module _ (t : Table) (a : Account) (i used : ℕ) (early : Bool) (w p : ℕ) (q 
   returned-tied =
       rw (same-weight (tied .matched))
       (record {
+        same-terms = tied .same-terms ∙ sym (placed-terms t i r);
         matched =
             match-set t gained i r (Acc.charged (getD gained i absent) used early) numbered
             (charged-alike w p q (getD gained i absent) used early holder-alike) gained-match;

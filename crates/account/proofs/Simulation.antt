@@ -1,55 +1,69 @@
 -- Table and account stay tied through every step, refused or accepted, and so through every run, in whatever order the account frees rows.
-use mathlib.Core.Path.{_≡_, refl, ap, subst, subst⁻¹, _∙_}
-use mathlib.Core.Bool.{Bool, false, cond}
+use mathlib.Core.Bool.{Bool, false}
 use mathlib.Core.List.{List, [], _∷_, _++_}
+use mathlib.Core.Option.{none}
+use mathlib.Core.Path.{_≡_, refl, ap, subst, subst⁻¹, _∙_}
 use Prim.Native.Nat.{ℕ}
 use native.Mathlib.Omega.{arith}
-use lib.Dec.{eqb}
 use Rattle.rows.specs.declared.Request.{Request}
 use Rattle.rows.specs.declared.Row.{Row}
 use Rattle.rows.specs.declared.State.{State}
 use Rattle.rows.specs.declared.State.the-variants.{Asking}
-use Rattle.rows.specs.Numbers.{lengthMeant}
-use Rattle.share.specs.declared.Event.{Event}
-use Rattle.share.specs.declared.Event.the-variants.{Fresh, Join, Leave, Reweight, Length, Grant, Return}
-use Rattle.share.specs.declared.Refusal.{Refusal}
-use Rattle.share.specs.declared.Refusal.the-variants.{Unsound, QueueOutside, WeightOutside, LengthOutside, SliceOut, NotHolder, RowTaken, NotAsking, LagBelow, TicksOutside, TableEmpty, CeilingPassed, ListShort, LimitOutside}
+use Rattle.rows.specs.declared.Terms.{Terms}
+use Rattle.rows.specs.Numbers.{lengthMeant, defaultOf}
+use Rattle.rows.specs.Orderly.{OrderlyAs}
+use Rattle.rows.specs.Requests.{entering, rowNextSet, charged}
+use Rattle.rows.proofs.Requests.{meant-low}
+use Rattle.head.specs.declared.Event.{Event}
+use Rattle.head.specs.declared.Event.the-variants.{Fresh, Join, Leave, Reweight, Length, Grant, Return}
+use Rattle.head.specs.declared.Refusal.{Refusal}
+use Rattle.head.specs.Head.{entry, sliced}
+use Rattle.head.specs.Refusals.{firstOf}
 use Rattle.share.specs.declared.Reply.{Reply}
 use Rattle.share.specs.declared.Table.{Table}
+use Rattle.share.specs.Asks.{Joins, Leaves, Lengthens, Returns}
+use Rattle.share.specs.Calls.{refused, step, checksOf, doneBy}
+use Rattle.share.specs.Events.{emptyTable, joined, leaving, left, reweighted, lengthSet, granted, returned, meant}
+use Rattle.share.specs.Runs.{run}
+use Rattle.share.specs.Sound.{orderly}
 use Rattle.share.specs.Table.{row, placed, withSlice}
-use Rattle.share.specs.Sound.{OrderlyAs}
-use Rattle.share.specs.Events.{emptyTable, entry, entering, joined, leaving, left, reweighted, rowNextSet, lengthSet, granted, charged, returned}
-use Rattle.share.specs.Answers.{refusalNumber}
-use Rattle.share.specs.Calls.{refused, renewReply, joinReply, leaveReply, reweightReply, lengthReply, grantReply, returnReply}
-use Rattle.share.specs.Runs.{step, run}
-use Rattle.share.proofs.Accepted.{Joins, join-accepted, Leaves, leave-accepted, reweight-accepted, Lengthens, length-accepted, Returns, return-accepted}
-use Rattle.share.proofs.Kept.{rejoins, holding, slice-within}
-use Rattle.share.proofs.Rows.{meant-low}
-use Rattle.calls.proofs.Calls.{call-cases}
-use Rattle.account.specs.Changes.{Change, changesOf, endsInRelease}
-use Rattle.account.specs.Account as Acc
+use Rattle.share.proofs.Accepted.{join-accepted, leave-accepted, reweight-accepted, length-accepted, return-accepted}
+use Rattle.share.proofs.Charges.{holding, slice-within}
+use Rattle.share.proofs.Departing.{rejoins}
+use Rattle.calls.proofs.Replies.{call-cases}
 use Rattle.account.specs.Account.{Account, made, noOne}
 use Rattle.account.specs.Books.{Clears, BookedAs, Books, none-left, next-change}
-use Rattle.account.specs.Runs.{accepted, countedOf, counted, changes, tableAfter}
-use Rattle.account.proofs.Tied.{Tied, Clocked}
-use Rattle.account.proofs.Releases.{released-tied, released-clocked}
-use Rattle.account.proofs.Returning.{Charges, returned-tied, returned-clocked}
+use Rattle.account.specs.Changes.{Change, endsInRelease}
+use Rattle.account.specs.Counted.{countedOf, counted, changes, tableAfter}
 use Rattle.account.proofs.Entering.{entered-tied, entered-clocked}
 use Rattle.account.proofs.Leaving.{slice-tied, fresh-tied, left-tied, left-clocked, lengthened-tied, lengthened-clocked}
+use Rattle.account.proofs.Releases.{released-tied, released-clocked}
+use Rattle.account.proofs.Returning.{Charges, returned-tied, returned-clocked}
+use Rattle.account.proofs.Tied.{Tied, Clocked}
+use Rattle.account.specs.Account as Acc
+
+-- a length means the same to both, since they have the same terms
+abbrev pub meantIn : Account → ℕ → ℕ
+meantIn a l = lengthMeant (defaultOf (a .terms)) l
+
+pub same-meant : (t : Table) (a : Account) (l : ℕ) → Tied t a → meantIn a l ≡ meant t l
+same-meant t a l tied = ap (λ (terms : Terms). lengthMeant (defaultOf terms) l) (tied .same-terms)
 
 -- each event, tied, with the release that it ends in
-pub join-tied : (t : Table) (a b : Account) (i w l : ℕ) → Tied t a → Joins t i w l → Clears (Acc.entered a i w (lengthMeant l)) b → Tied (joined t i w l) b
+pub join-tied : (t : Table) (a b : Account) (i w l : ℕ) → Tied t a → Joins t i w l → Clears (Acc.entered a i w (meantIn a l)) b → Tied (joined t i w l) b
 unfolding joined
 join-tied t a b i w l tied j way =
-    released-tied (placed t i (entering w (entry t) (lengthMeant l)))
-    (entered-tied t a i w (lengthMeant l) tied (j .inside) (j .free) (j .weight-low) (j .weight-high) (meant-low l)) way
+    released-tied (placed t i (entering w (entry (t .head)) (meant t l)))
+    (entered-tied t a i w (meant t l) tied (j .inside) (j .free) (j .weight-low) (j .weight-high) (meant-low (t .head .terms) l))
+    (subst (λ (n : ℕ). Clears (Acc.entered a i w n) b) (same-meant t a l tied) way)
 
 pub join-clocked : (t : Table) (a : Account) (i w l : ℕ) → Tied t a → Joins t i w l → Clocked t (joined t i w l)
 unfolding joined
 join-clocked t a i w l tied j =
-    released-clocked t (placed t i (entering w (entry t) (lengthMeant l)))
-    (entered-tied t a i w (lengthMeant l) tied (j .inside) (j .free) (j .weight-low) (j .weight-high) (meant-low l) .matched .sums)
-    (entered-clocked t a i w (lengthMeant l) tied (j .inside) (j .free) (j .weight-low) (j .weight-high) (meant-low l))
+    let light = meant-low (t .head .terms) l in
+    released-clocked t (placed t i (entering w (entry (t .head)) (meant t l)))
+    (entered-tied t a i w (meant t l) tied (j .inside) (j .free) (j .weight-low) (j .weight-high) light .matched .sums)
+    (entered-clocked t a i w (meant t l) tied (j .inside) (j .free) (j .weight-low) (j .weight-high) light)
 
 pub leave-tied : (t : Table) (a b : Account) (i : ℕ) → Tied t a → Leaves t i → Clears (Acc.left a i) b → Tied (left t i) b
 unfolding left
@@ -60,13 +74,13 @@ unfolding left
 leave-clocked t a i tied l =
     released-clocked t (placed t i (leaving t (row t i))) (left-tied t a i tied (l .asks) .matched .sums) (left-clocked t a i tied (l .asks))
 
-pub length-tied : (t : Table) (a : Account) (i l : ℕ) → Tied t a → Lengthens t i l → Tied (lengthSet t i l) (Acc.lengthened a i (lengthMeant l))
+pub length-tied : (t : Table) (a : Account) (i l : ℕ) → Tied t a → Lengthens t i l → Tied (lengthSet t i l) (Acc.lengthened a i (meantIn a l))
 unfolding lengthSet rowNextSet
-length-tied t a i l tied h = lengthened-tied t a i (lengthMeant l) tied (h .leaves .inside)
+length-tied t a i l tied h = rw (same-meant t a l tied) (lengthened-tied t a i (meant t l) tied (h .leaves .inside))
 
 pub length-clocked : (t : Table) (a : Account) (i l : ℕ) → Tied t a → Lengthens t i l → Clocked t (lengthSet t i l)
 unfolding lengthSet rowNextSet
-length-clocked t a i l tied h = lengthened-clocked t a i (lengthMeant l) tied (h .leaves .inside)
+length-clocked t a i l tied h = lengthened-clocked t a i (meant t l) tied (h .leaves .inside)
 
 abbrev as-asking : Row → Request → Row
 as-asking r q = record { weight = r .weight; position = r .position; state = Asking q }
@@ -75,11 +89,11 @@ asking-row : (r : Row) (q : Request) → r .state ≡ Asking q → r ≡ as-aski
 asking-row r q e = λ k. record { weight = r .weight; position = r .position; state = e k }
 
 slice-row : (t : Table) (j : ℕ) → row (withSlice t false 0 0) j ≡ row t j
-unfolding withSlice row
+unfolding withSlice sliced row
 slice-row t j = refl
 
 charges : (t : Table) (i used : ℕ) (r : Returns t i used) → Charges (withSlice t false 0 0) (row t i .weight) (row t i .position) used (holding t i used r .request)
-unfolding withSlice
+unfolding withSlice sliced
 charges t i used r =
     let h = holding t i used r in
     let orderly : OrderlyAs (Asking (h .request)) (row t i .weight) (row t i .position) =
@@ -87,7 +101,7 @@ charges t i used r =
     record {
       opens = h .orderly-holder .opened;
       stands = orderly .1 .stands;
-      fits = omega (arith, r .within, h .orderly-holder .lesser, slice-within (t .limit) (h .request) (orderly .1 .served-less));
+      fits = omega (arith, r .within, h .orderly-holder .slice-most, slice-within (t .head .terms) (h .request) (orderly .1 .served-less));
       light = orderly .0 .weight-low;
       heavy = orderly .0 .weight-high;
     }
@@ -124,7 +138,7 @@ return-tied t a b i used early tied r way =
     released-tied (placed (withSlice t false 0 0) i (charged (row t i) used early)) (charged-tied t a i used early tied r) way
 
 pub return-clocked : (t : Table) (a : Account) (i used : ℕ) (early : Bool) → Tied t a → Returns t i used → Clocked t (returned t i used early)
-unfolding returned taken withSlice
+unfolding returned taken withSlice sliced
 return-clocked t a i used early tied r =
     let c = released-clocked (withSlice t false 0 0) (placed (withSlice t false 0 0) i (charged (row t i) used early)) (charged-tied t a i used early tied r .matched .sums) (charged-clocked t a i used early tied r) in
     record { starts = c .starts; rises = c .rises }
@@ -143,60 +157,35 @@ pub books-split : {a b : Account} (cs ds : List Change) → Books a (cs ++ ds) b
 books-split {a} [] ds way = (a, none-left, way)
 books-split (c ∷ cs) ds (next-change h rest) = let more = books-split cs ds rest in (more .0, next-change h (more .1), more .2)
 
-pub not-accepted : (why : Refusal) → eqb (refusalNumber why) 0 ≡ false
-not-accepted Unsound = refl
-not-accepted QueueOutside = refl
-not-accepted WeightOutside = refl
-not-accepted LengthOutside = refl
-not-accepted SliceOut = refl
-not-accepted NotHolder = refl
-not-accepted RowTaken = refl
-not-accepted NotAsking = refl
-not-accepted LagBelow = refl
-not-accepted TicksOutside = refl
-not-accepted TableEmpty = refl
-not-accepted CeilingPassed = refl
-not-accepted ListShort = refl
-not-accepted LimitOutside = refl
-
 -- where the account of an event may end, if it is tied to the table before
 abbrev pub After : Account → Event → Reply → Type 0
 After a e r = (b : Account) → Books a (countedOf r e) b → Tied (r .table) b
 
 -- "refused calls counting as nothing"
 pub refused-counts : (t : Table) (e : Event) (why : Refusal) → countedOf (refused t why) e ≡ []
-unfolding countedOf accepted
-refused-counts t e why = ap (λ (b : Bool). cond b (changesOf e) []) (not-accepted why)
+unfolding countedOf
+refused-counts t e why = refl
 
 refused-after : (t : Table) (a : Account) (e : Event) (why : Refusal) → Tied t a → After a e (refused t why)
 refused-after t a e why tied b way = books-none t tied (rw (refused-counts t e why) at way)
 
-pub step-tied : (t : Table) (a : Account) (e : Event) → Tied t a → After a e (step t e)
-unfolding step renewReply joinReply leaveReply reweightReply lengthReply grantReply returnReply reweighted granted countedOf accepted
-step-tied t a (Fresh limit) tied =
-    call-cases (After a (Fresh limit)) _ t _ (λ why e. refused-after t a (Fresh limit) why tied)
-    (λ e b way. subst⁻¹ (Tied (emptyTable limit)) (books-one way) (fresh-tied limit))
-step-tied t a (Join i w l) tied =
-    call-cases (After a (Join i w l)) _ t _ (λ why e. refused-after t a (Join i w l) why tied)
-    (λ e b way. join-tied t a b i w l tied (join-accepted t i w l e) (books-one way))
-step-tied t a (Leave i) tied =
-    call-cases (After a (Leave i)) _ t _ (λ why e. refused-after t a (Leave i) why tied)
-    (λ e b way. leave-tied t a b i tied (leave-accepted t i e) (books-one way))
-step-tied t a (Reweight i w l) tied =
-    call-cases (After a (Reweight i w l)) _ t _ (λ why e. refused-after t a (Reweight i w l) why tied)
-    (λ e b way.
+done-after : (t : Table) (a : Account) (e : Event) → Tied t a → firstOf (checksOf t e) ≡ none → After a e (doneBy t e)
+unfolding reweighted granted countedOf
+done-after t a (Fresh terms) tied fine b way = subst⁻¹ (Tied (emptyTable terms)) (books-one way) (fresh-tied terms)
+done-after t a (Join i w l) tied fine b way = join-tied t a b i w l tied (join-accepted t i w l fine) (books-one way)
+done-after t a (Leave i) tied fine b way = leave-tied t a b i tied (leave-accepted t i fine) (books-one way)
+done-after t a (Reweight i w l) tied fine b way =
     let halves = books-two way in
-    let r = reweight-accepted t i w l e in
-    join-tied (left t i) (halves .0) b i w l (leave-tied t a (halves .0) i tied (r .leaves) (halves .1)) (rejoins t i w l r) (halves .2))
-step-tied t a (Length i l) tied =
-    call-cases (After a (Length i l)) _ t _ (λ why e. refused-after t a (Length i l) why tied)
-    (λ e b way. subst⁻¹ (Tied (lengthSet t i l)) (books-one way) (length-tied t a i l tied (length-accepted t i l e)))
-step-tied t a Grant tied =
-    call-cases (After a Grant) _ t _ (λ why e. refused-after t a Grant why tied)
-    (λ e b way. books-none _ (slice-tied t a _ _ _ tied) way)
-step-tied t a (Return i used early) tied =
-    call-cases (After a (Return i used early)) _ t _ (λ why e. refused-after t a (Return i used early) why tied)
-    (λ e b way. return-tied t a b i used early tied (return-accepted t i used e) (books-one way))
+    let r = reweight-accepted t i w l fine in
+    join-tied (left t i) (halves .0) b i w l (leave-tied t a (halves .0) i tied (r .leaves) (halves .1)) (rejoins t i w l r) (halves .2)
+done-after t a (Length i l) tied fine b way =
+    subst⁻¹ (Tied (lengthSet t i l)) (books-one way) (length-tied t a i l tied (length-accepted t i l fine))
+done-after t a Grant tied fine b way = books-none _ (slice-tied t a _ _ _ tied) way
+done-after t a (Return i used early) tied fine b way = return-tied t a b i used early tied (return-accepted t i used early fine) (books-one way)
+
+pub step-tied : (t : Table) (a : Account) (e : Event) → Tied t a → After a e (step t e)
+unfolding step
+step-tied t a e tied = call-cases (After a e) (checksOf t e) t (doneBy t e) (λ why is. refused-after t a e why tied) (done-after t a e tied)
 
 pub run-tied : (es : List Event) (t : Table) (a b : Account) → Tied t a → Books a (counted t es) b → Tied (run t es) b
 run-tied [] t a b tied way = books-none t tied way
@@ -205,6 +194,6 @@ run-tied (e ∷ es) t a b tied way =
     run-tied es (step t e .table) (parts .0) b (step-tied t a e tied (parts .0) (parts .1)) (parts .2)
 
 -- over any run from a fresh table
-pub tied-run : (limit : ℕ) (calls : List Event) (b : Account) → Books noOne (changes limit calls) b → Tied (tableAfter limit calls) b
+pub tied-run : (terms : Terms) (calls : List Event) (b : Account) → Books (noOne terms) (changes terms calls) b → Tied (tableAfter terms calls) b
 unfolding changes tableAfter
-tied-run limit calls b way = run-tied calls (emptyTable limit) noOne b (fresh-tied limit) way
+tied-run terms calls b way = run-tied calls (emptyTable terms) (noOne terms) b (fresh-tied terms) way

@@ -5,7 +5,8 @@ use Prim.Native.Nat.{ℕ, _+_, max}
 use lib.Dec.{leb, eqb}
 use lib.ListN.{getD, set, replicate}
 use Rattle.laws.specs.Lists.{sumOf}
-use Rattle.rows.specs.Numbers.{queues, unit, lengthMeant}
+use Rattle.rows.specs.declared.Terms.{Terms}
+use Rattle.rows.specs.Numbers.{queues, unit, lengthMeant, defaultOf}
 use Rattle.fractions.specs.Fraction.{Fraction, whole, nothing, _⊕_, minus, portion, atMost, ceilingOf}
 use Rattle.account.specs.Changes.{Change, begins, joins, leaves, lengthens, returns}
 
@@ -24,10 +25,11 @@ pub data Entry : Type 0 where
   absent : Entry
   present : Queue → Entry
 
--- one entry for each queue number, and V
+-- one entry for each queue number, and V; and the terms of the run, which say what a length of 0 stands for
 pub record Account : Type 0 where
   pub entries : List Entry
   pub virtual : Fraction
+  pub terms : Terms
 
 unfoldable pub entry : Account → ℕ → Entry
 entry a i = getD (a .entries) i absent
@@ -123,6 +125,7 @@ returned a queue used early =
     record {
       entries = set gained queue (charged (getD gained queue absent) used early);
       virtual = a .virtual ⊕ portion (whole used) unit W;
+      terms = a .terms;
     }
 
 -- what a departure passes on: "When a row with account a is freed and others remain"
@@ -141,7 +144,7 @@ unfoldable pub freed : Account → ℕ → Account
 freed a i =
     let left : ℕ = weightLeft a i in
     let passed : Fraction = passedOn (owedTo (entry a i)) left in
-    record { entries = allGain passed left (rest a i); virtual = a .virtual ⊕ portion passed unit left }
+    record { entries = allGain passed left (rest a i); virtual = a .virtual ⊕ portion passed unit left; terms = a .terms }
 
 -- "account 0 or more"
 unfoldable pub settled : Entry → Bool
@@ -165,7 +168,7 @@ goingAway (present q) =
 unfoldable pub left : Account → ℕ → Account
 left a queue =
     cond (settled (entry a queue)) (freed a queue)
-    (record { entries = set (a .entries) queue (goingAway (entry a queue)); virtual = a .virtual })
+    (record { entries = set (a .entries) queue (goingAway (entry a queue)); virtual = a .virtual; terms = a .terms })
 
 -- a queue that opens its first request
 unfoldable pub newcomer : ℕ → ℕ → Fraction → Entry
@@ -189,11 +192,11 @@ enteredBeside a queue weight length =
     let gap : Fraction = portion above weight unit in
     let with-newcomer : List Entry = set (a .entries) queue (newcomer weight length (minus gap)) in
     let W : ℕ = weightIn with-newcomer in
-    record { entries = allGain gap W with-newcomer; virtual = a .virtual ⊕ portion above weight W }
+    record { entries = allGain gap W with-newcomer; virtual = a .virtual ⊕ portion above weight W; terms = a .terms }
 
 -- "Into an empty table it enters with account 0." V "starts at 0 with each entry into an empty table".
 unfoldable pub enteredAlone : Account → ℕ → ℕ → ℕ → Account
-enteredAlone a queue weight length = record { entries = set (a .entries) queue (newcomer weight length nothing); virtual = nothing }
+enteredAlone a queue weight length = record { entries = set (a .entries) queue (newcomer weight length nothing); virtual = nothing; terms = a .terms }
 
 unfoldable pub entered : Account → ℕ → ℕ → ℕ → Account
 entered a queue weight length = cond (isEmpty a) (enteredAlone a queue weight length) (enteredBeside a queue weight length)
@@ -214,15 +217,15 @@ nextSet (present q) length =
     })
 
 unfoldable pub lengthened : Account → ℕ → ℕ → Account
-lengthened a queue length = record { entries = set (a .entries) queue (nextSet (entry a queue) length); virtual = a .virtual }
+lengthened a queue length = record { entries = set (a .entries) queue (nextSet (entry a queue) length); virtual = a .virtual; terms = a .terms }
 
-unfoldable pub noOne : Account
-noOne = record { entries = replicate queues absent; virtual = nothing }
+unfoldable pub noOne : Terms → Account
+noOne terms = record { entries = replicate queues absent; virtual = nothing; terms = terms }
 
 -- a change, before its release
 abbrev pub made : Account → Change → Account
-made a begins = noOne
-made a (joins queue weight length) = entered a queue weight (lengthMeant length)
+made a (begins terms) = noOne terms
+made a (joins queue weight length) = entered a queue weight (lengthMeant (defaultOf (a .terms)) length)
 made a (leaves queue) = left a queue
-made a (lengthens queue length) = lengthened a queue (lengthMeant length)
+made a (lengthens queue length) = lengthened a queue (lengthMeant (defaultOf (a .terms)) length)
 made a (returns queue used early) = returned a queue used early

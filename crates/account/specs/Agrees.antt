@@ -2,8 +2,8 @@
 use mathlib.Core.Path.{_≡_}
 use Rattle.rows.specs.declared.Row.{Row}
 use Rattle.rows.specs.Row.{isFree, isGoing, isAsking, weightIn}
-use Rattle.account.specs.Account as Acc
 use Rattle.account.specs.Account.{Entry, isAbsent, weightOf}
+use Rattle.account.specs.Account as Acc
 
 pub record Agrees (r : Row) (e : Entry) : Type 0 where
   pub free : isFree (r .state) ≡ isAbsent e

@@ -1,13 +1,13 @@
 -- The account's own release, and the account of a list of changes.
-use mathlib.Core.Path.{_≡_}
 use mathlib.Core.Bool.{Bool, true, false, cond, _&&_}
 use mathlib.Core.List.{List, [], _∷_}
 use mathlib.Core.Option.{none, some}
+use mathlib.Core.Path.{_≡_}
 use Prim.Native.Nat.{ℕ, zero, suc}
 use lib.ListN.{length}
 use Rattle.laws.specs.Lists.{firstFrom}
-use Rattle.account.specs.Changes.{Change, endsInRelease}
 use Rattle.account.specs.Account.{Entry, Account, entry, isGoing, settled, freed, made}
+use Rattle.account.specs.Changes.{Change, endsInRelease}
 
 -- "a going one as soon as its account is 0 or more after an event that ends in a release"
 unfoldable pub due : Entry → Bool

@@ -1,12 +1,12 @@
 -- V from one account to the next.
-use mathlib.Core.Path.{_≡_}
 use mathlib.Core.Bool.{true}
 use mathlib.Core.List.{List, [], _∷_}
+use mathlib.Core.Path.{_≡_}
 use Prim.Native.Nat.{_<_}
 use Rattle.fractions.specs.Fraction.{nothing, _~_, atMost}
-use Rattle.account.specs.Changes.{Change}
 use Rattle.account.specs.Account.{Account, weightIn}
 use Rattle.account.specs.Books.{booked}
+use Rattle.account.specs.Changes.{Change}
 
 -- "it starts at 0 with each entry into an empty table. While the table isn't empty V never falls."
 pub record GoesOn (before after : Account) : Type 0 where

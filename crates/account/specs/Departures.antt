@@ -1,12 +1,12 @@
 -- A departure that counts once, and one that counts twice.
-use mathlib.Core.Path.{_≡_}
 use mathlib.Core.Bool.{false}
 use mathlib.Core.List.{List, [], _∷_, map, _++_}
 use mathlib.Core.Logic.{_≢_}
+use mathlib.Core.Path.{_≡_}
 use Prim.Native.Nat.{ℕ}
-use Rattle.rows.specs.Numbers.{unit}
-use Rattle.share.specs.declared.Event.{Event}
-use Rattle.share.specs.declared.Event.the-variants.{Fresh, Join, Leave, Grant, Return}
+use Rattle.rows.specs.Numbers.{unit, leastTerms}
+use Rattle.head.specs.declared.Event.{Event}
+use Rattle.head.specs.declared.Event.the-variants.{Fresh, Join, Leave, Grant, Return}
 use Rattle.fractions.specs.Fraction.{Fraction, _⊕_, portion, _~_, total}
 use Rattle.account.specs.Account.{Entry, absent, Account, entry, weightOf, owedTo, allGain, passedOn, rest, weightLeft, freed}
 
@@ -30,11 +30,12 @@ freedTwice a i =
     record {
       entries = allGain passed (weightLeft a i) (once .entries);
       virtual = once .virtual ⊕ portion passed unit (weightLeft a i);
+      terms = once .terms;
     }
 
 -- bench case B2: the first seven lines of the run in document 01, and then "L 1"
 abbrev pub sevenLines : List Event
-sevenLines = Fresh 1 ∷ Join 1 2 2 ∷ Grant ∷ Return 1 1 false ∷ Join 0 2 1 ∷ Grant ∷ Return 0 1 false ∷ []
+sevenLines = Fresh leastTerms ∷ Join 1 2 2 ∷ Grant ∷ Return 1 1 false ∷ Join 0 2 1 ∷ Grant ∷ Return 0 1 false ∷ []
 
 abbrev pub eightLines : List Event
 eightLines = sevenLines ++ Leave 1 ∷ []

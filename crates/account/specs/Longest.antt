@@ -5,13 +5,13 @@ use Prim.Native.Nat.{ℕ, max}
 use lib.Dec.{eqb}
 use Rattle.rows.specs.declared.State.{State}
 use Rattle.rows.specs.declared.State.the-variants.{Free, Going, Asking}
-use Rattle.share.specs.declared.Event.{Event}
-use Rattle.share.specs.declared.Event.the-variants.{Fresh, Join, Leave, Reweight, Length, Grant, Return}
+use Rattle.head.specs.declared.Event.{Event}
+use Rattle.head.specs.declared.Event.the-variants.{Fresh, Join, Leave, Reweight, Length, Grant, Return}
+use Rattle.head.specs.Answers.{isAccepted}
 use Rattle.share.specs.declared.Reply.{Reply}
 use Rattle.share.specs.declared.Table.{Table}
+use Rattle.share.specs.Calls.{step}
 use Rattle.share.specs.Table.{row}
-use Rattle.share.specs.Runs.{step}
-use Rattle.account.specs.Runs.{accepted}
 
 -- the length of the request that a row has open, 0 where it has none
 abbrev pub openLength : State → ℕ
@@ -21,7 +21,7 @@ openLength (Asking q) = q .length
 
 -- the queue joins by this event, or joins again
 abbrev pub joinsBy : Event → ℕ → Bool
-joinsBy (Fresh limit) i = false
+joinsBy (Fresh terms) i = false
 joinsBy (Join queue weight length) i = eqb i queue
 joinsBy (Leave queue) i = false
 joinsBy (Reweight queue weight length) i = eqb i queue
@@ -33,7 +33,7 @@ joinsBy (Return queue used early) i = false
 unfoldable pub longestAfter : Reply → Event → ℕ → ℕ → ℕ
 longestAfter r e i longest =
     let length : ℕ = openLength (row (r .table) i .state) in
-    cond (accepted r && joinsBy e i) length (max longest length)
+    cond (isAccepted (r .answer) && joinsBy e i) length (max longest length)
 
 -- "the longest request opened since it last joined", in the tables of a run
 abbrev pub longestSeen : Table → List Event → ℕ → ℕ → ℕ

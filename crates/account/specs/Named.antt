@@ -1,16 +1,16 @@
 -- The rows that an event names, and what may become of the others.
-use mathlib.Core.Path.{_≡_}
 use mathlib.Core.Bool.{Bool, true, false}
+use mathlib.Core.Path.{_≡_}
 use Prim.Native.Nat.{ℕ}
 use lib.Dec.{eqb}
 use Rattle.rows.specs.declared.Row.{Row}
 use Rattle.rows.specs.Row.{blank, isGoing}
-use Rattle.share.specs.declared.Event.{Event}
-use Rattle.share.specs.declared.Event.the-variants.{Fresh, Join, Leave, Reweight, Length, Grant, Return}
+use Rattle.head.specs.declared.Event.{Event}
+use Rattle.head.specs.declared.Event.the-variants.{Fresh, Join, Leave, Reweight, Length, Grant, Return}
 
 -- a fresh table names every row, a grant none: it alters no row, that of the queue chosen neither
 abbrev pub names : Event → ℕ → Bool
-names (Fresh limit) i = true
+names (Fresh terms) i = true
 names (Join queue weight length) i = eqb i queue
 names (Leave queue) i = eqb i queue
 names (Reweight queue weight length) i = eqb i queue

@@ -22,6 +22,7 @@ unpriced absent = absent
 unpriced (present q) = present (noted q)
 
 pub record Same (a b : Account) : Type 0 where
+  pub terms-same : a .terms ≡ b .terms
   pub entries-same : (i : ℕ) → unpriced (entry a i) ≡ unpriced (entry b i)
   pub owed-same : (i : ℕ) → owedTo (entry a i) ~ owedTo (entry b i)
   pub virtual-same : 0 < weightIn (a .entries) → a .virtual ~ b .virtual

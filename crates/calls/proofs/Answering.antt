@@ -1,36 +1,33 @@
 -- Demand 1 on events: a step is refused by the lowest number that applies, with the table as it was given, or is done.
-use mathlib.Core.Path.{_≡_, refl, ap, _∙_}
 use mathlib.Core.Bool.{true}
 use mathlib.Core.List.{List}
 use mathlib.Core.Logic.{_≢_}
 use mathlib.Core.Option.{Option, none, some}
+use mathlib.Core.Path.{_≡_, refl, ap, _∙_}
 use Prim.Native.Nat.{_≤_}
 use lib.IntN.{ℤ}
-use Rattle.share.specs.declared.Event.{Event}
-use Rattle.share.specs.declared.Event.the-variants.{Fresh, Join, Leave, Reweight, Length, Grant, Return}
-use Rattle.share.specs.declared.Refusal.{Refusal}
+use Rattle.head.specs.declared.Event.{Event}
+use Rattle.head.specs.declared.Event.the-variants.{Fresh, Join, Leave, Reweight, Length, Grant, Return}
+use Rattle.head.specs.declared.Refusal.{Refusal}
+use Rattle.head.specs.Answers.{refusalNumber, number}
+use Rattle.head.specs.Head.{concerns}
+use Rattle.head.specs.Refusals.{firstOf}
 use Rattle.share.specs.declared.Reply.{Reply}
 use Rattle.share.specs.declared.Table.{Table}
-use Rattle.share.specs.Answers.{refusalNumber, number}
-use Rattle.share.specs.Calls.{call, reportedReply, lagReply, lagList}
-use Rattle.share.specs.Refusals.{firstOf, lagChecks}
-use Rattle.share.specs.Runs.{step, checksOf, doneBy}
-use Rattle.share.proofs.Calls.{call-refused, call-accepted}
-use Rattle.share.proofs.Verdicts.{step-parts}
-use Rattle.calls.proofs.Calls.{Kept, refused-kept}
-use Rattle.calls.proofs.Refusals.{Applies, ordered, first-lowest, fresh-ordered, join-ordered, leave-ordered, reweight-ordered, length-ordered, grant-ordered, return-ordered}
+use Rattle.share.specs.Calls.{call, reportedReply, lagReply, lagList, lagChecks, step, checksOf, doneBy}
+use Rattle.share.specs.Events.{chosen}
+use Rattle.share.specs.Sound.{sound}
+use Rattle.share.specs.Table.{row}
+use Rattle.share.proofs.Stepping.{call-refused, call-accepted}
+use Rattle.calls.proofs.Applying.{Applies, ordered, first-lowest, event-ordered}
+use Rattle.calls.proofs.Replies.{refused-handed-back, HandedBack}
 
 pub checks-ordered : (t : Table) (e : Event) → ordered 0 (checksOf t e) ≡ true
-checks-ordered t (Fresh limit) = fresh-ordered limit
-checks-ordered t (Join queue weight length) = join-ordered t queue weight length
-checks-ordered t (Leave queue) = leave-ordered t queue
-checks-ordered t (Reweight queue weight length) = reweight-ordered t queue weight length
-checks-ordered t (Length queue length) = length-ordered t queue length
-checks-ordered t Grant = grant-ordered t
-checks-ordered t (Return queue used early) = return-ordered t queue used
+unfolding checksOf
+checks-ordered t e = event-ordered (sound t) (t .head) (row t (concerns (chosen t) e)) e
 
 done-accepted : (t : Table) (e : Event) → number (doneBy t e .answer) ≡ 0
-done-accepted t (Fresh limit) = refl
+done-accepted t (Fresh terms) = refl
 done-accepted t (Join queue weight length) = refl
 done-accepted t (Leave queue) = refl
 done-accepted t (Reweight queue weight length) = refl
@@ -39,12 +36,14 @@ done-accepted t Grant = refl
 done-accepted t (Return queue used early) = refl
 
 -- refused by its number, the other values 0, the table as given
-pub step-refused : (t : Table) (e : Event) (why : Refusal) → firstOf (checksOf t e) ≡ some why → Kept t (step t e) why
-step-refused t e why h = rw (step-parts t e) (refused-kept (checksOf t e) t (doneBy t e) why h)
+pub step-refused : (t : Table) (e : Event) (why : Refusal) → firstOf (checksOf t e) ≡ some why → HandedBack t (step t e) why
+unfolding step
+step-refused t e why h = refused-handed-back (checksOf t e) t (doneBy t e) why h
 
 -- and where nothing applies it is done
 pub step-done : (t : Table) (e : Event) → firstOf (checksOf t e) ≡ none → step t e ≡ doneBy t e
-step-done t e h = step-parts t e ∙ call-accepted (checksOf t e) t (doneBy t e) h
+unfolding step
+step-done t e h = call-accepted (checksOf t e) t (doneBy t e) h
 
 pub step-lowest : (t : Table) (e : Event) (why other : Refusal) → firstOf (checksOf t e) ≡ some why → Applies other (checksOf t e) → refusalNumber why ≤ refusalNumber other
 step-lowest t e why other h applies = first-lowest 0 why applies (checks-ordered t e) h

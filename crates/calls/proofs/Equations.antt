@@ -1,21 +1,20 @@
 -- Equations 7 to 12, 14 and 15 of report 96-038, over the common denominators of positions (720,720 / weight a tick) and of V = A / W.
-use mathlib.Core.Path.{_≡_, refl, ap, sym, _∙_}
 use mathlib.Core.Bool.{Bool, true, false}
+use mathlib.Core.Path.{_≡_, refl, ap, sym, _∙_}
 use Prim.Native.Nat.{ℕ, _+_, _*_, _<_}
 use native.Mathlib.Omega.{arith}
 use lib.ListN.{length}
 use Rattle.rows.specs.declared.Request.{Request}
 use Rattle.rows.specs.declared.Row.{Row}
 use Rattle.rows.specs.Numbers.{stepOf}
+use Rattle.rows.specs.Orderly.{OrderlyRequest}
+use Rattle.rows.specs.Requests.{opened, servedTo}
 use Rattle.rows.specs.Row.{isFree, positionOf, deadlineOf, chargedTo}
+use Rattle.rows.proofs.Requests.{served-early, served-up}
 use Rattle.share.specs.declared.Table.{Table}
-use Rattle.share.specs.Events.{opened, servedTo}
 use Rattle.share.specs.Release.{freed}
-use Rattle.share.specs.Sound.{OrderlyRequest}
-use Rattle.share.specs.Table.{row}
-use Rattle.share.proofs.Parts.{served-early, served-up}
-use Rattle.share.proofs.Placed.{TrueSums}
-use Rattle.calls.proofs.Departure.{departure-once}
+use Rattle.share.specs.Table.{row, TrueSums}
+use Rattle.calls.proofs.OneDeparture.{departure-once}
 
 -- Equation 9: the first request opens where the queue enters. Equation 10: its deadline is a length's steps later.
 pub first-opens : (w p length : ℕ) → opened p length .opening ≡ p
@@ -44,7 +43,7 @@ next-opens-after-use w p used q h =
     ap (λ (x : Request). x .opening) (sym (served-early q (chargedTo w p used) used true refl)) ∙ rw (h .stands) (omega arith)
 
 -- Equation 15, lag' = lag + w lag / (W left), for a row of weight w at p: over W x W', with the negative parts moved across.
-pub remaining-lag : (t : Table) (i : ℕ) (w p : ℕ) → TrueSums t → i < length (t .rows) → isFree (row t i .state) ≡ false → let r : Row = row t i in let u : Table = freed t i in w * u .sum * t .total + w * (t .total * p) * u .total + w * (r .weight * (t .total * r .position)) ≡ w * (u .total * p) * t .total + w * t .sum * u .total + w * (r .weight * t .sum)
+pub remaining-lag : (t : Table) (i : ℕ) (w p : ℕ) → TrueSums t → i < length (t .rows) → isFree (row t i .state) ≡ false → let r : Row = row t i in let u : Table = freed t i in w * u .head .sum * t .head .total + w * (t .head .total * p) * u .head .total + w * (r .weight * (t .head .total * r .position)) ≡ w * (u .head .total * p) * t .head .total + w * t .head .sum * u .head .total + w * (r .weight * t .head .sum)
 remaining-lag t i w p sums inside present =
     let once = departure-once t i sums inside present in
     omega (arith, ap (λ (x : ℕ). w * x) once)

@@ -1,8 +1,8 @@
 -- Release frees exactly the going rows that V comes to reach. V only rises while rows are freed, so a row freed on the way is reached at the end;
 -- and a going row that stays is not, since the release ends calm.
-use mathlib.Core.Path.{_≡_, refl, ap, subst, subst⁻¹}
 use mathlib.Core.Bool.{true}
 use mathlib.Core.Logic.{_⊎_, ⊎-elim, _↔_}
+use mathlib.Core.Path.{_≡_, refl, ap, subst, subst⁻¹}
 use Prim.Native.Nat.{ℕ}
 use native.Mathlib.Decide.{ℕ-discrete}
 use Rattle.laws.proofs.Means.{still-reached}
@@ -20,7 +20,7 @@ use Rattle.share.proofs.Release.{freed-total, freed-sum, freed-same, freed-othe
 still-level : (t : Table) (i p : ℕ) → Ready t i → AtMostV t p → AtMostV (freed t i) p
 still-level t i p r level =
     rw (freed-total t i, freed-sum t i, ready-weight t i r, ready-moment t i r)
-    (still-reached p (row t i .position) (row t i .weight) (t .total) (t .sum) (r .level) level)
+    (still-reached p (row t i .position) (row t i .weight) (t .head .total) (t .head .sum) (r .level) level)
 
 pub frees-level : {t u : Table} (p : ℕ) → Frees t u → AtMostV t p → AtMostV u p
 frees-level p (done calm) level = level

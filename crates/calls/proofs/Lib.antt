@@ -1,12 +1,12 @@
--- `Answering`, `Granting` and `Kept` hold what the demands say of single calls and of runs.
-pub mod Calls
-pub mod Refusals
+-- Theorems on the calls that no function's proof needs. `Answering`, `Granting` and `Soundness` hold what the demands say of single calls and of runs.
+pub mod Replies
+pub mod Applying
 pub mod Answering
 pub mod Outcomes
-pub mod Placed
-pub mod Choice
-pub mod Kept
+pub mod SameSums
+pub mod Choosing
+pub mod Soundness
 pub mod Granting
-pub mod Departure
+pub mod OneDeparture
 pub mod Exactly
 pub mod Equations

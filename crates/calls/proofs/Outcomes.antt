@@ -1,22 +1,22 @@
 -- No second outcome: each public call's contract is one equation with a definition, so two outcomes that fit it are equal. For every call and all
 -- inputs, refused ones too, this names the answer, the table and the list.
-use mathlib.Core.Path.{_≡_, sym, _∙_}
 use mathlib.Core.Bool.{Bool}
 use mathlib.Core.List.{List}
+use mathlib.Core.Path.{_≡_, sym, _∙_}
 use Prim.Native.Nat.{ℕ}
 use lib.IntN.{ℤ}
-use Rattle.share.specs.declared.Event.{Event}
+use Rattle.rows.specs.declared.Terms.{Terms}
+use Rattle.head.specs.declared.Event.{Event}
 use Rattle.share.specs.declared.Reply.{Reply}
 use Rattle.share.specs.declared.Table.{Table}
-use Rattle.share.specs.Calls.{freshReply, joinReply, leaveReply, releaseReply, reweightReply, lengthReply, grantReply, returnReply, lagReply, lagList}
-use Rattle.share.specs.Runs.{step}
+use Rattle.share.specs.Calls.{freshReply, joinReply, leaveReply, releaseReply, reweightReply, lengthReply, grantReply, returnReply, lagReply, lagList, step}
 
 one-outcome : {A : Type 0} {x y z : A} → x ≡ z → y ≡ z → x ≡ y
 one-outcome p q = p ∙ sym q
 
 module _ (r s : Reply) where
-  pub fresh-once : (limit : ℕ) → r ≡ freshReply limit → s ≡ freshReply limit → r ≡ s
-  fresh-once limit = one-outcome
+  pub fresh-once : (terms : Terms) → r ≡ freshReply terms → s ≡ freshReply terms → r ≡ s
+  fresh-once terms = one-outcome
 
   module _ (t : Table) where
     pub join-once : (queue weight length : ℕ) → r ≡ joinReply t queue weight length → s ≡ joinReply t queue weight length → r ≡ s

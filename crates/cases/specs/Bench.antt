@@ -3,21 +3,22 @@ use mathlib.Core.Bool.{false}
 use mathlib.Core.List.{List, [], _∷_, _++_}
 use Prim.Native.Nat.{ℕ, _-_}
 use lib.IntN.{pos}
-use Rattle.rows.specs.Numbers.{ceiling}
-use Rattle.share.specs.declared.Event.the-variants.{Fresh, Join, Leave, Grant, Return}
+use Rattle.rows.specs.Numbers.{ceiling, leastTerms}
+use Rattle.rows.specs.Requests.{entering}
+use Rattle.head.specs.declared.Event.the-variants.{Join, Leave, Grant, Return}
 use Rattle.share.specs.declared.Table.{Table}
+use Rattle.share.specs.Events.{emptyTable}
 use Rattle.share.specs.Table.{placed}
-use Rattle.share.specs.Events.{emptyTable, entering}
-use Rattle.cases.specs.Facts.{minus, _over_, answers, grants, sums, weighs, virtual-time, not-virtual-time, lag, reports, enters-at, is-free, is-going, from-sound, only-takes-the-slice-in, Line, _then_, Case}
+use Rattle.cases.specs.Facts.{minus, _over_, answers, grants, sums, weighs, virtual-time, not-virtual-time, lag, reports, enters-at, is-free, is-going, from-sound, only-takes-the-slice-in, fresh, Line, _then_, Case}
 
 -- "It begins with the table that refusal 14 gives"
 abbrev pub first : List Line → Case
-first lines = record { from = emptyTable 1; lines = lines }
+first lines = record { from = emptyTable leastTerms; lines = lines }
 
 -- B1, "the run above", up to its line 7. B2: there "V is 540,540; queue 1's lag is half a tick". B3: there queue 0 has "lag minus half a tick"
 abbrev pub sevenLines : List Line
 sevenLines =
-    (Fresh 1 then answers 0 ∷ sums 0 0 ∷ [])
+    (fresh 1 then answers 0 ∷ sums 0 0 ∷ [])
     ∷ (Join 1 2 2 then answers 0 ∷ sums 0 2 ∷ [])
     ∷ (Grant then answers 0 ∷ grants 1 1 ∷ sums 0 2 ∷ [])
     ∷ (Return 1 1 false then answers 0 ∷ sums 720720 2 ∷ [])
@@ -29,7 +30,7 @@ sevenLines =
 -- B4: "slice limit 1, queues 0 (weight 2) and 1 (weight 15), length 1: the first grant is 1; after the return A is 720,720 and W is 17"
 abbrev pub twoQueues : List Line
 twoQueues =
-    (Fresh 1 then [])
+    (fresh 1 then [])
     ∷ (Join 0 2 1 then answers 0 ∷ [])
     ∷ (Join 1 15 1 then answers 0 ∷ [])
     ∷ (Grant then grants 1 1 ∷ [])
@@ -46,11 +47,11 @@ threeQueues =
 
 -- B9 and B11 start with a slice of one tick out
 abbrev pub sliceOut : List Line
-sliceOut = (Fresh 1 then []) ∷ (Join 5 4 3 then answers 0 ∷ []) ∷ (Grant then grants 5 1 ∷ []) ∷ []
+sliceOut = (fresh 1 then []) ∷ (Join 5 4 3 then answers 0 ∷ []) ∷ (Grant then grants 5 1 ∷ []) ∷ []
 
 -- B10: "a lone queue of weight 16, length 1, nothing served"
 unfoldable pub loneAt : ℕ → Table
-loneAt position = placed (emptyTable 1) 0 (entering 16 position 1)
+loneAt position = placed (emptyTable leastTerms) 0 (entering 16 position 1)
 
 abbrev pub bench : List Case
 bench =

@@ -1,7 +1,7 @@
 -- What a bench case may say of one event: of its answer, and of the table that it leaves.
 use mathlib.Core.Bool.{Bool, true, false, not, _&&_}
 use mathlib.Core.List.{List, [], _∷_, _++_}
-use Prim.Native.Nat.{ℕ, _*_}
+use Prim.Native.Nat.{ℕ}
 use lib.Dec.{eqb}
 use lib.IntN.{ℤ, pos, negsuc, negℤ, _*ℤ_}
 use Rattle.laws.specs.Lists.{all}
@@ -9,16 +9,18 @@ use Rattle.rows.specs.declared.Row.{Row}
 use Rattle.rows.specs.declared.State.{State}
 use Rattle.rows.specs.declared.State.the-variants.{Free, Going, Asking}
 use Rattle.rows.specs.Row.{isFree, isGoing}
-use Rattle.share.specs.declared.Answer.{Answer}
-use Rattle.share.specs.declared.Answer.the-variants.{Accepted, Granted, Reported, Refused}
-use Rattle.share.specs.declared.Event.{Event}
+use Rattle.head.specs.declared.Answer.{Answer}
+use Rattle.head.specs.declared.Answer.the-variants.{Accepted, Granted, Reported, Refused}
+use Rattle.head.specs.declared.Event.{Event}
+use Rattle.head.specs.declared.Event.the-variants.{Fresh}
+use Rattle.head.specs.Answers.{number}
+use Rattle.head.specs.Lag.{lagOf, lagUnit}
 use Rattle.share.specs.declared.Reply.{Reply}
 use Rattle.share.specs.declared.Table.{Table}
-use Rattle.share.specs.Table.{row, withSlice}
+use Rattle.share.specs.Calls.{step}
+use Rattle.share.specs.LagList.{lagsInto}
 use Rattle.share.specs.Sound.{sound}
-use Rattle.share.specs.Lag.{lagOf, lagUnit, lagsInto}
-use Rattle.share.specs.Answers.{number}
-use Rattle.share.specs.Runs.{step}
+use Rattle.share.specs.Table.{row, withSlice}
 
 -- a number below zero
 abbrev pub minus : ℕ → ℤ
@@ -88,7 +90,7 @@ flagNumber true = 1
 flagNumber false = 0
 
 abbrev pub tableNumbers : Table → List ℕ
-tableNumbers t = t .total ∷ t .sum ∷ t .limit ∷ flagNumber (t .out) ∷ t .holder ∷ t .ticks ∷ rowNumbers (t .rows)
+tableNumbers t = t .head .total ∷ t .head .sum ∷ t .head .terms .limit ∷ flagNumber (t .head .out) ∷ t .head .holder ∷ t .head .ticks ∷ rowNumbers (t .rows)
 
 abbrev pub sameNumbers : List ℕ → List ℕ → Bool
 sameNumbers [] [] = true
@@ -100,11 +102,11 @@ sameNumbers (x ∷ xs) (y ∷ ys) = eqb x y && sameNumbers xs ys
 unfoldable pub holds : Table → Reply → Fact → Bool
 holds before r (answers n) = eqb (number (r .answer)) n
 holds before r (grants queue slice) = isGrantOf (r .answer) queue slice
-holds before r (sums a w) = eqb (r .table .sum) a && eqb (r .table .total) w
-holds before r (weighs w) = eqb (r .table .total) w
-holds before r (virtual-time v) = equals (pos (r .table .sum) over r .table .total) v
-holds before r (not-virtual-time v) = not (equals (pos (r .table .sum) over r .table .total) v)
-holds before r (lag queue v) = equals (lagOf (r .table) (row (r .table) queue) over lagUnit (r .table)) v
+holds before r (sums a w) = eqb (r .table .head .sum) a && eqb (r .table .head .total) w
+holds before r (weighs w) = eqb (r .table .head .total) w
+holds before r (virtual-time v) = equals (pos (r .table .head .sum) over r .table .head .total) v
+holds before r (not-virtual-time v) = not (equals (pos (r .table .head .sum) over r .table .head .total) v)
+holds before r (lag queue v) = equals (lagOf (r .table .head) (row (r .table) queue) over lagUnit (r .table .head)) v
 holds before r (reports lags) = begins lags (lagsInto (r .table) [])
 holds before r (enters-at queue position) = eqb (row (r .table) queue .position) position
 holds before r (is-free queue) = isFree (row (r .table) queue .state)
@@ -112,7 +114,10 @@ holds before r (is-going queue) = isGoing (row (r .table) queue .state)
 holds before r from-sound = sound before
 holds before r only-takes-the-slice-in = sameNumbers (tableNumbers (r .table)) (tableNumbers (withSlice before false 0 0))
 
--- an event, and what is said of it
+-- an event, and what is said of it; a fresh table by its slice limit
+abbrev pub fresh : ℕ → Event
+fresh limit = Fresh (record { limit = limit })
+
 infix 20 _then_
 pub data Line : Type 0 where
   _then_ : Event → List Fact → Line

@@ -1,6 +1,6 @@
 -- A test that is a conjunction, taken apart and put together; a test that cannot be both.
-use mathlib.Core.Path.{_≡_, refl, sym, _∙_}
-use mathlib.Core.Bool.{Bool, true, false, _&&_, true≢false}
+use mathlib.Core.Path.{_≡_, refl, sym, subst⁻¹, _∙_}
+use mathlib.Core.Bool.{Bool, true, false, _&&_, _||_, true≢false}
 use mathlib.Core.List.{List, [], _∷_}
 use mathlib.Core.Logic.{_⊎_, ⊎-elim}
 use Prim.Native.Nat.{ℕ, zero, suc, _+_, _≤_, _<_}
@@ -40,6 +40,29 @@ and-right false b e = absurd (clash e refl)
 
 pub and-both : {a b : Bool} → a ≡ true → b ≡ true → a && b ≡ true
 and-both {a} {b} p q = rw (p, q)
+
+pub and-second : (a b : Bool) → a ≡ true → a && b ≡ false → b ≡ false
+and-second true b p e = e
+and-second false b p e = absurd (clash p refl)
+
+pub or-left : (a b : Bool) → a || b ≡ false → a ≡ false
+or-left true b e = e
+or-left false b e = refl
+
+pub or-right : (a b : Bool) → a || b ≡ false → b ≡ false
+or-right true b e = absurd (clash refl e)
+or-right false b e = e
+
+pub or-second : (a : Bool) {b : Bool} → b ≡ true → a || b ≡ true
+or-second true e = refl
+or-second false e = e
+
+pub or-neither : {a b : Bool} → a ≡ false → b ≡ false → a || b ≡ false
+or-neither {a} {b} p q = rw (p, q)
+
+-- what holds of each number below n and of n holds of each below the next
+pub below-next : (P : ℕ → Type 0) (n : ℕ) → ((j : ℕ) → j < n → P j) → P n → (j : ℕ) → j < suc n → P j
+below-next P n below at j h = ⊎-elim (λ l. subst⁻¹ P (omega arith) at) (λ l. below j l) (le-or-lt n j)
 
 -- the tests of a list, each a fact of its own
 abbrev pub Each : List Bool → Type 0

@@ -3,10 +3,10 @@ use mathlib.Core.Path.{_≡_, refl}
 use mathlib.Core.List.{List, [], _∷_}
 use Prim.Native.Nat.{ℕ}
 use Rattle.laws.specs.Lists.{every}
+use Rattle.head.specs.declared.Line.the-variants.{Broken}
 use Rattle.lines.specs.Cut.{cutAt}
 use Rattle.lines.specs.Decimal.{isDecimal, decimal}
 use Rattle.lines.specs.Grammar.{eventOf, numbers, eventIf, eventNamed, eventIn, readLine}
-use Rattle.lines.specs.declared.Line.the-variants.{Broken}
 
 abbrev Refused : List (List ℕ) → Type 0
 Refused [] = Unit {0}

@@ -11,9 +11,9 @@ use lib.ListN.{length, take, drop, set, length-append, length-set}
 use lib.Seq.{sets, length-sets, set-comm, sets-eq, take-at, length-take-le}
 use borrow.Author.Tests.{lt-ltb, le-ltb, ltb-true}
 use Rattle.laws.proofs.Tests.{le-or-lt, either}
+use Rattle.head.specs.declared.Shown.{Shown}
 use Rattle.lines.specs.Decimal.{digitsIn, digits}
 use Rattle.lines.specs.Print.{sums, dashes, answerLine, shownLine}
-use Rattle.lines.specs.declared.writing.Shown.{Shown}
 use Rattle.lines.specs.Places.{lastDigits, placesIn, places, Wrote}
 
 pub places-one : (k n : ℕ) → n < 10 → placesIn k n ≡ 1

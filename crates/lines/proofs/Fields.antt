@@ -9,12 +9,12 @@ use lib.Dec.{eqb}
 use lib.ListN.{length, drop, getD, length-drop}
 use lib.Seq.{drop-drop}
 use borrow.Author.Tests.{le-leb, lt-leb, eqb-true, eq-eqb, ne-eqb}
+use Rattle.head.specs.declared.Line.the-variants.{Broken}
 use Rattle.lines.specs.Cut.{space, part, cutAt, before, fieldsOf}
 use Rattle.lines.specs.Decimal.{decimal}
 use Rattle.lines.specs.Grammar.{eventOf, both, numbers, eventIf, eventNamed, eventIn, readLine}
 use Rattle.lines.specs.Reading.{fieldAs, fieldAt}
 use Rattle.lines.specs.declared.reading.Field.the-variants.{Decimal, Nothing}
-use Rattle.lines.specs.declared.Line.the-variants.{Broken}
 use Rattle.lines.proofs.Cutting.{before-length, cut-more, cut-last, cut-first}
 
 -- no line begins with a space

@@ -8,8 +8,8 @@ use native.Mathlib.Omega.{arith}
 use lib.ListN.{length, take, drop, length-append, length-take}
 use lib.Seq.{take-all}
 use Rattle.laws.proofs.Tests.{le-or-lt}
+use Rattle.head.specs.declared.Line.the-variants.{Broken}
 use Rattle.share.specs.declared.Table.{Table}
-use Rattle.lines.specs.declared.Line.the-variants.{Broken}
 use Rattle.lines.specs.Cut.{newline, cutAt, before, linesOf}
 use Rattle.lines.specs.Grammar.{readLine}
 use Rattle.lines.specs.Print.{printed, after, answers, printsFrom}

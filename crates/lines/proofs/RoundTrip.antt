@@ -9,11 +9,11 @@ use native.Mathlib.Omega.{arith}
 use lib.Dec.{leb, eqb}
 use lib.ListN.{length, length-append}
 use borrow.Author.Tests.{le-leb, leb-true, eqb-true, eqb-false, ne-eqb}
-use Rattle.share.specs.declared.Event.{Event}
-use Rattle.share.specs.declared.Event.the-variants.{Fresh, Join, Leave, Reweight, Length, Grant, Return}
 use Rattle.laws.specs.Lists.{all}
 use Rattle.laws.proofs.Tests.{and-left, and-right}
-use Rattle.lines.specs.declared.Line.the-variants.{Known, Broken}
+use Rattle.head.specs.declared.Event.{Event}
+use Rattle.head.specs.declared.Event.the-variants.{Fresh, Join, Leave, Reweight, Length, Grant, Return}
+use Rattle.head.specs.declared.Line.the-variants.{Known, Broken}
 use Rattle.lines.specs.Cut.{space, part, cutAt, before, fieldsOf}
 use Rattle.lines.specs.Decimal.{digit, decimal, digits}
 use Rattle.lines.specs.Grammar.{letterS, letterJ, letterL, letterW, letterR, letterG, letterU, returnOf, eventOf, both, numbers, eventIf, eventNamed, eventIn, readLine, spaced, mark, lineOf, Small, Written}
@@ -69,7 +69,7 @@ reads k ns c h l =
 
 pub reads-back : (e : Event) → Written e → readLine (lineOf e) ≡ Known e
 unfolding lineOf Written eventOf before
-reads-back (Fresh limit) h = reads letterS (limit ∷ []) refl (h, tt) (omega arith)
+reads-back (Fresh terms) h = reads letterS (terms .limit ∷ []) refl (h, tt) (omega arith)
 reads-back (Join queue weight length) h = reads letterJ (queue ∷ weight ∷ length ∷ []) refl (small-three h) (omega arith)
 reads-back (Leave queue) h = reads letterL (queue ∷ []) refl (h, tt) (omega arith)
 reads-back (Reweight queue weight length) h = reads letterW (queue ∷ weight ∷ length ∷ []) refl (small-three h) (omega arith)
@@ -143,8 +143,8 @@ event-only k (a ∷ []) e s h = fresh (eqb k letterS) refl h
     leave true t h = let x : Leave a ≡ e = cc in rw (← x, eqb-true k letterL t) (refl, s .0)
     leave false t h = absurd (never e h)
 
-    fresh : (t : Bool) → eqb k letterS ≡ t → cond t (Known (Fresh a)) (cond (eqb k letterL) (Known (Leave a)) Broken) ≡ Known e → Is k (a ∷ []) e
-    fresh true t h = let x : Fresh a ≡ e = cc in rw (← x, eqb-true k letterS t) (refl, s .0)
+    fresh : (t : Bool) → eqb k letterS ≡ t → cond t (Known (Fresh (record { limit = a }))) (cond (eqb k letterL) (Known (Leave a)) Broken) ≡ Known e → Is k (a ∷ []) e
+    fresh true t h = let x : Fresh (record { limit = a }) ≡ e = cc in rw (← x, eqb-true k letterS t) (refl, s .0)
     fresh false t h = leave (eqb k letterL) refl h
 event-only k (a ∷ b ∷ []) e s h = size (eqb k letterR) refl h
   where
@@ -197,7 +197,7 @@ only-lines l e h = by (leb (length l) 40) h
 -- no line of an event is longer than 40 bytes: the longest that reads at all has 19
 pub lines-short : (e : Event) → Written e → length (lineOf e) ≤ 19
 unfolding lineOf Written
-lines-short (Fresh limit) h = omega (arith, spaced-length (limit ∷ []) (h, tt))
+lines-short (Fresh terms) h = omega (arith, spaced-length (terms .limit ∷ []) (h, tt))
 lines-short (Join queue weight size) h = omega (arith, spaced-length (queue ∷ weight ∷ size ∷ []) (small-three h))
 lines-short (Leave queue) h = omega (arith, spaced-length (queue ∷ []) (h, tt))
 lines-short (Reweight queue weight size) h = omega (arith, spaced-length (queue ∷ weight ∷ size ∷ []) (small-three h))

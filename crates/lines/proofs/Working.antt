@@ -9,21 +9,21 @@ use native.Mathlib.Omega.{arith}
 use lib.ListN.{length, take, drop, length-drop}
 use lib.Seq.{drop-drop}
 use Rattle.laws.proofs.Tests.{clash}
-use Rattle.share.specs.declared.Answer.{Answer}
-use Rattle.share.specs.declared.Answer.the-variants.{Accepted, Granted, Reported, Refused}
-use Rattle.share.specs.declared.Event.{Event}
+use Rattle.head.specs.declared.Answer.{Answer}
+use Rattle.head.specs.declared.Answer.the-variants.{Accepted, Granted, Reported, Refused}
+use Rattle.head.specs.declared.Event.{Event}
+use Rattle.head.specs.declared.Line.{Line}
+use Rattle.head.specs.declared.Line.the-variants.{Known, Broken}
+use Rattle.head.specs.declared.Shown.{Shown}
+use Rattle.head.specs.Answers.{number, plainly, shownAs, broken}
 use Rattle.share.specs.declared.Reply.{Reply}
 use Rattle.share.specs.declared.Table.{Table}
-use Rattle.share.specs.Answers.{number}
-use Rattle.share.specs.Runs.{step}
-use Rattle.lines.specs.declared.Line.{Line}
-use Rattle.lines.specs.declared.Line.the-variants.{Known, Broken}
-use Rattle.lines.specs.declared.writing.Shown.{Shown}
+use Rattle.share.specs.Calls.{step}
 use Rattle.lines.specs.Cut.{newline, before}
 use Rattle.lines.specs.Grammar.{readLine}
 use Rattle.lines.specs.Places.{Wrote}
 use Rattle.lines.specs.Print.{answerLine, shownLine, whoIn, sliceIn, printed, after, printsFrom}
-use Rattle.lines.specs.Pieces.{plainly, shownAs, Unfinished, Worked, bytesIn}
+use Rattle.lines.specs.Pieces.{Unfinished, Worked, bytesIn}
 use Rattle.lines.proofs.Cutting.{before-length, before-take, found-nowhere}
 use Rattle.lines.proofs.Digits.{wrote-length, wrote-take, shown-most}
 use Rattle.lines.proofs.Pieces.{first-line}
@@ -36,17 +36,17 @@ shown-reply line (Granted queue slice) sum total = refl
 shown-reply line (Reported denominator) sum total = refl
 shown-reply line (Refused why) sum total = refl
 
-known-line : (line : ℕ) (t : Table) (event : Event) → shownLine line (shownAs (step t event .answer)) (step t event .table .sum) (step t event .table .total) ≡ printed line t (Known event)
+known-line : (line : ℕ) (t : Table) (event : Event) → shownLine line (shownAs (step t event .answer)) (step t event .table .head .sum) (step t event .table .head .total) ≡ printed line t (Known event)
 unfolding printed
-known-line line t event = shown-reply line (step t event .answer) (step t event .table .sum) (step t event .table .total)
+known-line line t event = shown-reply line (step t event .answer) (step t event .table .head .sum) (step t event .table .head .total)
 
-broken-line : (line : ℕ) (t : Table) → shownLine line (plainly 15) (t .sum) (t .total) ≡ printed line t Broken
+broken-line : (line : ℕ) (t : Table) → shownLine line (plainly broken) (t .head .sum) (t .head .total) ≡ printed line t Broken
 unfolding printed shownLine
 broken-line line t = refl
 
 printed-most : (line : ℕ) (t : Table) (l : Line) → length (printed line t l) ≤ 126
-printed-most line t (Known event) = rw (← known-line line t event) (shown-most line (shownAs (step t event .answer)) (step t event .table .sum) (step t event .table .total))
-printed-most line t Broken = rw (← broken-line line t) (shown-most line (plainly 15) (t .sum) (t .total))
+printed-most line t (Known event) = rw (← known-line line t event) (shown-most line (shownAs (step t event .answer)) (step t event .table .head .sum) (step t event .table .head .total))
+printed-most line t Broken = rw (← broken-line line t) (shown-most line (plainly broken) (t .head .sum) (t .head .total))
 
 pub record Working (line : ℕ) (t : Table) (input out₀ out : List ℕ) (u : Table) (next i written : ℕ) : Type 0 where
   pub within : i ≤ length input
@@ -92,15 +92,15 @@ module _ {line : ℕ} {t : Table} {input out₀ out : List ℕ} {u : Table} {nex
         }
 
   pub working-known : {event : Event} → readLine (bytesIn input i e) ≡ Known event → {reply : Reply} → reply ≡ step u event
-      → {a : Shown} → a ≡ shownAs (reply .answer) → {o : List ℕ} {p : ℕ} → Wrote out written (shownLine next a (reply .table .sum) (reply .table .total)) o p
+      → {a : Shown} → a ≡ shownAs (reply .answer) → {o : List ℕ} {p : ℕ} → Wrote out written (shownLine next a (reply .table .head .sum) (reply .table .head .total)) o p
       → Working line t input out₀ o (reply .table) (next + 1) (e + 1) p
   unfolding after
   working-known known is shows x = next-turn known (rw is) (rw (shows, is, known-line) at x)
 
-  pub working-broken : readLine (bytesIn input i e) ≡ Broken → {a : Shown} → a ≡ plainly 15
-      → {o : List ℕ} {p : ℕ} → Wrote out written (shownLine next a (u .sum) (u .total)) o p → Working line t input out₀ o u (next + 1) (e + 1) p
+  pub working-broken : readLine (bytesIn input i e) ≡ Broken → {a : Shown} → a ≡ plainly broken
+      → {o : List ℕ} {p : ℕ} → Wrote out written (shownLine next a (u .head .sum) (u .head .total)) o p → Working line t input out₀ o u (next + 1) (e + 1) p
   unfolding after
-  working-broken broken shows x = next-turn broken refl (rw (shows, broken-line) at x)
+  working-broken told shows x = next-turn told refl (rw (shows, broken-line) at x)
 
 module _ {line : ℕ} {t : Table} {input out₀ out : List ℕ} {u : Table} {next i written : ℕ} (w : Working line t input out₀ out u next i written) where
   pub end-within : {e : ℕ} → e ≡ i + length (before newline (drop i input)) → e ≤ length input

@@ -5,10 +5,10 @@ use mathlib.Core.Option.{Option, none, some}
 use Prim.Native.Nat.{ℕ, _<_}
 use lib.Dec.{leb, eqb}
 use lib.ListN.{length}
-use Rattle.share.specs.declared.Event.{Event}
-use Rattle.share.specs.declared.Event.the-variants.{Fresh, Join, Leave, Reweight, Length, Grant, Return}
-use Rattle.lines.specs.declared.Line.{Line}
-use Rattle.lines.specs.declared.Line.the-variants.{Known, Broken}
+use Rattle.head.specs.declared.Event.{Event}
+use Rattle.head.specs.declared.Event.the-variants.{Fresh, Join, Leave, Reweight, Length, Grant, Return}
+use Rattle.head.specs.declared.Line.{Line}
+use Rattle.head.specs.declared.Line.the-variants.{Known, Broken}
 use Rattle.lines.specs.Cut.{space, fieldsOf}
 use Rattle.lines.specs.Decimal.{decimal, digits}
 
@@ -41,7 +41,7 @@ returnOf queue used early = cond (leb early 1) (Known (Return queue used (eqb ea
 -- "`S limit`, `J number weight length`, `L number`, `W number weight length`, `R number length`, `G`, `U number used early`"
 unfoldable pub eventOf : ℕ → List ℕ → Line
 eventOf letter [] = cond (eqb letter letterG) (Known Grant) Broken
-eventOf letter (a ∷ []) = cond (eqb letter letterS) (Known (Fresh a)) (cond (eqb letter letterL) (Known (Leave a)) Broken)
+eventOf letter (a ∷ []) = cond (eqb letter letterS) (Known (Fresh (record { limit = a }))) (cond (eqb letter letterL) (Known (Leave a)) Broken)
 eventOf letter (a ∷ b ∷ []) = cond (eqb letter letterR) (Known (Length a b)) Broken
 eventOf letter (a ∷ b ∷ c ∷ []) =
     cond (eqb letter letterJ) (Known (Join a b c))
@@ -86,7 +86,7 @@ mark true = 1
 mark false = 0
 
 unfoldable pub lineOf : Event → List ℕ
-lineOf (Fresh limit) = letterS ∷ spaced (limit ∷ [])
+lineOf (Fresh terms) = letterS ∷ spaced (terms .limit ∷ [])
 lineOf (Join queue weight length) = letterJ ∷ spaced (queue ∷ weight ∷ length ∷ [])
 lineOf (Leave queue) = letterL ∷ spaced (queue ∷ [])
 lineOf (Reweight queue weight length) = letterW ∷ spaced (queue ∷ weight ∷ length ∷ [])
@@ -99,7 +99,7 @@ abbrev pub Small : ℕ → Type 0
 Small n = n < 100000
 
 unfoldable pub Written : Event → Type 0
-Written (Fresh limit) = Small limit
+Written (Fresh terms) = Small (terms .limit)
 Written (Join queue weight length) = Small queue × Small weight × Small length
 Written (Leave queue) = Small queue
 Written (Reweight queue weight length) = Small queue × Small weight × Small length

@@ -6,27 +6,13 @@ use mathlib.Core.Logic.{_⊎_}
 use Prim.Native.Nat.{ℕ, _+_, _-_, _^_, _≤_, _<_}
 use lib.Dec.{ltb}
 use lib.ListN.{length, take, drop}
-use Rattle.share.specs.declared.Answer.{Answer}
-use Rattle.share.specs.declared.Answer.the-variants.{Accepted, Granted, Reported, Refused}
+use Rattle.rows.specs.Numbers.{leastTerms}
 use Rattle.share.specs.declared.Table.{Table}
-use Rattle.share.specs.Answers.{refusalNumber}
 use Rattle.share.specs.Events.{emptyTable}
-use Rattle.lines.specs.declared.writing.Shown.{Shown}
 use Rattle.lines.specs.declared.Done.{Done}
 use Rattle.lines.specs.declared.State.{State}
 use Rattle.lines.specs.Cut.{newline, before}
 use Rattle.lines.specs.Print.{printsFrom}
-
--- an answer that grants nothing
-abbrev pub plainly : ℕ → Shown
-plainly answer = record { answer = answer; granted = false; queue = 0; slice = 0 }
-
--- an answer's number, and queue and slice where there is a grant
-abbrev pub shownAs : Answer → Shown
-shownAs Accepted = plainly 0
-shownAs (Granted queue slice) = record { answer = 0; granted = true; queue = queue; slice = slice }
-shownAs (Reported denominator) = plainly 0
-shownAs (Refused why) = plainly (refusalNumber why)
 
 -- no newline stands in these bytes
 abbrev pub Unfinished : List ℕ → Type 0
@@ -60,7 +46,7 @@ printsOn s buf rest = printsFrom (s .line) (s .table) (heldIn s buf ++ rest)
 
 -- "It begins with the table that refusal 14 gives"
 abbrev pub begun : State
-begun = record { table = emptyTable 1; line = 1; from = 0; have = 0; more = false; written = 0 }
+begun = record { table = emptyTable leastTerms; line = 1; from = 0; have = 0; more = false; written = 0 }
 
 -- nothing was done
 abbrev pub idleAs : State → State

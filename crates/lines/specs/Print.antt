@@ -2,16 +2,17 @@
 use mathlib.Core.Bool.{cond}
 use mathlib.Core.List.{List, [], _∷_, _++_}
 use Prim.Native.Nat.{ℕ, suc}
-use Rattle.share.specs.declared.Answer.{Answer}
-use Rattle.share.specs.declared.Answer.the-variants.{Accepted, Granted, Reported, Refused}
+use Rattle.rows.specs.Numbers.{leastTerms}
+use Rattle.head.specs.declared.Answer.{Answer}
+use Rattle.head.specs.declared.Answer.the-variants.{Accepted, Granted, Reported, Refused}
+use Rattle.head.specs.declared.Line.{Line}
+use Rattle.head.specs.declared.Line.the-variants.{Known, Broken}
+use Rattle.head.specs.declared.Shown.{Shown}
+use Rattle.head.specs.Answers.{number, broken}
 use Rattle.share.specs.declared.Reply.{Reply}
 use Rattle.share.specs.declared.Table.{Table}
-use Rattle.share.specs.Answers.{number}
+use Rattle.share.specs.Calls.{step}
 use Rattle.share.specs.Events.{emptyTable}
-use Rattle.share.specs.Runs.{step}
-use Rattle.lines.specs.declared.Line.{Line}
-use Rattle.lines.specs.declared.writing.Shown.{Shown}
-use Rattle.lines.specs.declared.Line.the-variants.{Known, Broken}
 use Rattle.lines.specs.Cut.{space, newline, linesOf}
 use Rattle.lines.specs.Decimal.{digits}
 use Rattle.lines.specs.Grammar.{readLine}
@@ -57,12 +58,12 @@ shownLine line a sum total =
 
 abbrev pub replyLine : ℕ → Reply → List ℕ
 replyLine line r =
-    answerLine line (number (r .answer)) (whoIn (r .answer)) (sliceIn (r .answer)) (r .table .sum) (r .table .total)
+    answerLine line (number (r .answer)) (whoIn (r .answer)) (sliceIn (r .answer)) (r .table .head .sum) (r .table .head .total)
 
 -- "Any other line is answered 15, ... and changes nothing."
 unfoldable pub printed : ℕ → Table → Line → List ℕ
 printed line t (Known event) = replyLine line (step t event)
-printed line t Broken = answerLine line 15 dash dash (t .sum) (t .total)
+printed line t Broken = answerLine line broken dash dash (t .head .sum) (t .head .total)
 
 unfoldable pub after : Table → Line → Table
 after t (Known event) = step t event .table
@@ -79,4 +80,4 @@ printsFrom line t input = answers line t (linesOf input)
 
 -- "It begins with the table that refusal 14 gives"; "It prints a header and one line for each input line"
 unfoldable pub prints : List ℕ → List ℕ
-prints input = header ++ printsFrom 1 (emptyTable 1) input
+prints input = header ++ printsFrom 1 (emptyTable leastTerms) input

@@ -5,30 +5,20 @@ mod writing;
 pub use reading::LONGEST;
 pub use reading::read_line;
 pub use writing::ROOM;
-pub use writing::Shown;
 ghost use mathlib.Core.Path.{_≡_};
 ghost use Prim.Native.Nat.{_+_, _≤_};
 ghost use lib.ListN.{length, drop};
 ghost use Rattle.lines.specs.Cut.{newline, before};
 ghost use Rattle.lines.specs.Pieces.{Worked, MovedToFront, begun, idleAs, grownBy, Turned, Closed};
 ghost use Rattle.lines.specs.Print.{header as headerBytes};
-use share::Event;
+use share::BROKEN;
+use share::Line;
+use share::Shown;
 use share::Table;
-use writing::plain;
-use writing::show;
 use writing::write_answer;
-
-// What a line is: an event, or one that is answered 15.
-pub enum Line {
-    Known(Event),
-    Broken,
-}
 
 // The most bytes of an unfinished line that are kept: one more than a line may have, so that an overlong one stays overlong.
 pub const KEPT: usize = 41;
-
-// The answer to a line that is none of the grammar's.
-const BROKEN: u64 = 15;
 
 // Where the program stands between reading and writing: the table, the number of the next line, and the bytes from..have of the buffer that
 // are not answered yet. `more` says that whole lines may be among them; `written` is how much of the output to write.
@@ -86,7 +76,7 @@ pub fn begin() -> State
     ensures { λ r. ⌜ r ≡ begun ⌝ }
 {
     State {
-        table: Table::empty(1),
+        table: Table::empty(Table::LEAST_TERMS),
         line: 1,
         from: 0,
         have: 0,
@@ -242,7 +232,14 @@ pub fn work(table: Table, line: u64, input: &[u8], out: &mut [u8]) -> Done
             };
         }
         let Line::Known(event) = read_line(&input[i..e]) else {
-            written = write_answer(out, written, line, plain(BROKEN), t.sum, t.total);
+            written = write_answer(
+                out,
+                written,
+                line,
+                Shown::plain(BROKEN),
+                t.head.sum,
+                t.head.total,
+            );
             line += 1;
             i = e + 1;
             continue;
@@ -250,7 +247,7 @@ pub fn work(table: Table, line: u64, input: &[u8], out: &mut [u8]) -> Done
         let reply = t.apply(event);
         let answer = reply.answer;
         t = reply.table;
-        written = write_answer(out, written, line, show(answer), t.sum, t.total);
+        written = write_answer(out, written, line, answer.shown(), t.head.sum, t.head.total);
         line += 1;
         i = e + 1;
     }

@@ -5,8 +5,9 @@ ghost use Prim.Native.Nat.{_≤_};
 ghost use lib.ListN.{length};
 ghost use Rattle.lines.specs.Grammar.{eventOf, readLine, returnOf};
 ghost use Rattle.lines.specs.Reading.{fieldAt, finishedAs, zeroLeads};
-use crate::Line;
 use share::Event;
+use share::Line;
+use share::Terms;
 
 // What a field is: a decimal and the place of its end, or none.
 pub enum Field {
@@ -120,7 +121,9 @@ fn with_one(letter: u8, a: u64) -> Line
     ensures { λ r. ⌜ r ≡ eventOf letter (a ∷ []) ⌝ }
 {
     if letter == b'S' {
-        return Line::Known(Event::Fresh { limit: a });
+        return Line::Known(Event::Fresh {
+            terms: Terms { limit: a },
+        });
     }
     if letter == b'L' {
         return Line::Known(Event::Leave { queue: a });

@@ -7,17 +7,8 @@ ghost use lib.Seq.{sets};
 ghost use Rattle.lines.specs.Decimal.{digits};
 ghost use Rattle.lines.specs.Places.{lastDigits, Wrote};
 ghost use Rattle.lines.specs.Places.{places as placesOf};
-ghost use Rattle.lines.specs.Pieces.{plainly, shownAs};
 ghost use Rattle.lines.specs.Print.{shownLine, dashes as dashesOf, sums as sumsOf};
-use share::Answer;
-
-// The answer of a call as it is printed: its number, and what was granted if anything was.
-pub struct Shown {
-    pub answer: u64,
-    pub granted: bool,
-    pub queue: u64,
-    pub slice: u64,
-}
+use share::Shown;
 
 // The most bytes that an answer line takes: six numbers, and a byte after each.
 pub const ROOM: usize = 126;
@@ -99,31 +90,4 @@ fn places(n: u64) -> usize
         k += 1;
     }
     k
-}
-
-pub(crate) fn show(answer: Answer) -> Shown
-    ensures { λ r. ⌜ r ≡ shownAs answer ⌝ }
-{
-    match answer {
-        Answer::Accepted => plain(0),
-        Answer::Granted { queue, slice } => Shown {
-            answer: 0,
-            granted: true,
-            queue,
-            slice,
-        },
-        Answer::Reported { denominator: _ } => plain(0),
-        Answer::Refused(why) => plain(why.number()),
-    }
-}
-
-pub(crate) fn plain(answer: u64) -> Shown
-    ensures { λ r. ⌜ r ≡ plainly answer ⌝ }
-{
-    Shown {
-        answer,
-        granted: false,
-        queue: 0,
-        slice: 0,
-    }
 }

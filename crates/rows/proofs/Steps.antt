@@ -3,30 +3,37 @@ use mathlib.Core.Path.{_≡_, refl}
 use mathlib.Core.Bool.{Bool}
 use mathlib.Core.List.{_∷_}
 use mathlib.Core.Logic.{⊎-elim}
-use Prim.Native.Nat.{ℕ, zero, suc, _-_, _*_, _≤_, _<_}
+use Prim.Native.Nat.{ℕ, zero, suc, _*_, _≤_, _<_}
 use native.Mathlib.Omega.{arith}
 use native.Mathlib.Nat.{zero-add, mul-le-mul, mul-le-mul-right}
-use native.Mathlib.Numerals.{sub-one}
 use lib.Dec.{eqb}
 use lib.ListN.{getD, List·getD-eq-default}
 use borrow.Author.Tests.{eqb-true}
 use Rattle.laws.proofs.Tests.{all-from-at, le-or-lt}
 use Rattle.rows.specs.Numbers.{steps, stepOf, unit, maxWeight, maxLength}
 
-pub step-below : (w : ℕ) → w < 1 → stepOf w ≡ 0
+step-below : (w : ℕ) → w < 1 → stepOf w ≡ 0
 unfolding stepOf
 step-below zero h = refl
 step-below (suc k) h = absurd (omega arith)
 
-pub step-past : (w : ℕ) → maxWeight < w → stepOf w ≡ 0
+step-past : (w : ℕ) → maxWeight < w → stepOf w ≡ 0
 unfolding stepOf
 step-past w h = List·getD-eq-default (0 ∷ steps) 0 h
 
--- the table counts weights from 1, a list counts its entries from 0
-pub step-entry : (w : ℕ) → 1 ≤ w → stepOf w ≡ getD steps (w - 1) 0
-unfolding stepOf
-step-entry zero h = absurd (omega arith)
-step-entry (suc k) h = rw sub-one refl
+-- a weight that is none of 1 to n
+abbrev pub NoneUpTo : ℕ → ℕ → Type 0
+NoneUpTo zero w = Unit {0}
+NoneUpTo (suc n) w = NoneUpTo n w × (w ≡ suc n → ⊥)
+
+none-up-to : (n w : ℕ) → NoneUpTo n w → 1 ≤ w → w ≤ n → ⊥
+none-up-to zero w h low high = omega arith
+none-up-to (suc n) w h low high = ⊎-elim (λ most. none-up-to n w (h .0) low most) (λ past. h .1 (omega arith)) (le-or-lt w n)
+
+-- has no step
+pub step-other : (w : ℕ) → NoneUpTo maxWeight w → stepOf w ≡ 0
+step-other w h =
+    ⊎-elim (λ low. ⊎-elim (λ high. absurd (none-up-to maxWeight w h low high)) (step-past w) (le-or-lt w maxWeight)) (step-below w) (le-or-lt 1 w)
 
 exact : ℕ → ℕ → Bool
 exact k step = eqb (suc k * step) unit

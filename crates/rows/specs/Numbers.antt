@@ -4,6 +4,7 @@ use mathlib.Core.List.{List, [], _∷_}
 use Prim.Native.Nat.{ℕ}
 use lib.Dec.{eqb}
 use lib.ListN.{getD}
+use Rattle.rows.specs.declared.Terms.{Terms}
 
 -- "Queue numbers 0 to 63, one row each."
 abbrev pub queues : ℕ
@@ -13,6 +14,10 @@ queues = 64
 abbrev pub maxWeight : ℕ
 maxWeight = 16
 
+-- the most that 64 rows weigh
+abbrev pub maxTotal : ℕ
+maxTotal = 1024
+
 -- "Request length 1 to 10,000 ticks ..."
 abbrev pub maxLength : ℕ
 maxLength = 10000
@@ -21,12 +26,20 @@ maxLength = 10000
 abbrev pub defaultLength : ℕ
 defaultLength = 20
 
-unfoldable pub lengthMeant : ℕ → ℕ
-lengthMeant length = cond (eqb length 0) defaultLength length
+unfoldable pub lengthMeant : ℕ → ℕ → ℕ
+lengthMeant default length = cond (eqb length 0) default length
 
 -- "Slice limit 1 to 100 ticks, fixed when a table is made."
 abbrev pub maxLimit : ℕ
 maxLimit = 100
+
+-- what the table of a refused fresh is made with
+abbrev pub leastTerms : Terms
+leastTerms = record { limit = 1 }
+
+-- the default length of a table made with these terms
+unfoldable pub defaultOf : Terms → ℕ
+defaultOf terms = defaultLength
 
 -- "Positions are whole numbers, 720,720 to one unit of virtual time."
 abbrev pub unit : ℕ

@@ -1,13 +1,44 @@
-// A row of the share table and what one tick does to it.
+// A row of the share table and all that can be asked of it without the table: its ranges, what a tick does to it, and what a walk over rows sees
+// of it.
 ghost use mathlib.Core.Path.{_≡_};
-ghost use Prim.Native.Nat.{_≤_};
-ghost use Rattle.rows.specs.Numbers.{stepOf, steps as allSteps, maxLength, ceiling};
-ghost use Rattle.rows.specs.Row.{deadlineOf, chargedTo};
+ghost use Rattle.rows.specs.Numbers.{stepOf};
+
+mod looking;
+mod ranges;
+mod serving;
+
+pub use looking::Bid;
+pub use looking::Seen;
+pub use looking::UNSEEN;
+pub use looking::first_row;
+pub use looking::goes_before;
+pub use looking::place;
+pub use looking::seen_after;
+pub use ranges::exchanged;
+pub use ranges::in_range;
+pub use ranges::is_asking;
+pub use ranges::is_free;
+pub use ranges::is_ready;
+pub use ranges::lesser;
+pub use ranges::moment;
+pub use ranges::outside;
+pub use ranges::reached;
+pub use ranges::request_orderly;
+pub use serving::charged;
+pub use serving::charged_to;
+pub use serving::default_of;
+pub use serving::length_meant;
+pub use serving::next_set;
+pub use serving::opened;
+pub use serving::served;
 
 // The limits of the shop, once; the table type names them for its users.
 pub const QUEUES: u64 = 64;
 
 pub const MAX_WEIGHT: u64 = 16;
+
+// The most that 64 rows weigh.
+pub const MAX_TOTAL: u64 = QUEUES * MAX_WEIGHT;
 
 pub const MAX_LENGTH: u64 = 10_000;
 
@@ -20,25 +51,10 @@ pub const CEILING: u64 = 281_474_976_710_656;
 // Position units to one unit of virtual time: the least common multiple of 1 to 16.
 pub const UNIT: u64 = 720_720;
 
-// Position units that one tick moves a queue of weight 1 to 16: 720,720 / weight, exact at every entry.
-pub const STEPS: [u64; 16] = [
-    720720,
-    360360,
-    240240,
-    180180,
-    144144,
-    120120,
-    102960,
-    90090,
-    80080,
-    72072,
-    65520,
-    60060,
-    55440,
-    51480,
-    48048,
-    45045,
-];
+// What a table is made with.
+pub struct Terms {
+    pub limit: u64,
+}
 
 // An open request: where it opened, its length, the ticks served of it, and the length of the one after it.
 pub struct Request {
@@ -60,42 +76,33 @@ pub struct Row {
     pub state: State,
 }
 
-// The step of a weight, from a table that the caller lends: a walk over many rows sets it up once. 0 of a weight that no queue may have.
-pub fn step_in(steps: &[u64; 16], weight: u64) -> u64
-    requires { ⌜ now steps ≡ allSteps ⌝ }
-    ensures { λ r. ⌜ r ≡ stepOf weight ⌝ }
-{
-    if weight < 1 {
-        return 0;
-    }
-    if MAX_WEIGHT < weight {
-        return 0;
-    }
-    let at = (weight - 1) as usize;
-    steps[at]
-}
+pub const BLANK: Row = Row {
+    weight: 0,
+    position: 0,
+    state: State::Free,
+};
 
+// Position units that one tick moves a queue of this weight: 720,720 / weight, exact for each of the sixteen. 0 of a weight that no queue may have.
 pub fn step_of(weight: u64) -> u64
     ensures { λ r. ⌜ r ≡ stepOf weight ⌝ }
 {
-    let steps = STEPS;
-    step_in(&steps, weight)
-}
-
-impl Request {
-    // Equation 8 of the report, V(d) = V(e) + r / w, in position units.
-    pub fn deadline(self, weight: u64) -> u64
-        requires { ⌜ (self .opening ≤ ceiling) × (self .length ≤ maxLength) ⌝ }
-        ensures { λ r. ⌜ r ≡ deadlineOf weight self ⌝ }
-    {
-        self.opening + self.length * step_of(weight)
+    match weight {
+        1 => 720720,
+        2 => 360360,
+        3 => 240240,
+        4 => 180180,
+        5 => 144144,
+        6 => 120120,
+        7 => 102960,
+        8 => 90090,
+        9 => 80080,
+        10 => 72072,
+        11 => 65520,
+        12 => 60060,
+        13 => 55440,
+        14 => 51480,
+        15 => 48048,
+        16 => 45045,
+        _ => 0,
     }
-}
-
-// Where a queue stands after some ticks more: equation 7 of the report, one step a tick.
-pub fn charged(weight: u64, position: u64, used: u64) -> u64
-    requires { ⌜ (position ≤ ceiling) × (used ≤ maxLength) ⌝ }
-    ensures { λ r. ⌜ r ≡ chargedTo weight position used ⌝ }
-{
-    position + used * step_of(weight)
 }

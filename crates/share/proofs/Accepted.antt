@@ -1,159 +1,131 @@
 -- What an accepted call may rest on: no refusal applied, so each test of its list was false, and that is a fact about the table and the numbers.
 use mathlib.Core.Path.{_≡_, refl}
-use mathlib.Core.Bool.{Bool, true, false, _||_}
+use mathlib.Core.Bool.{Bool, true, false, not, cond}
 use mathlib.Core.List.{List, [], _∷_}
-use mathlib.Core.Option.{none}
-use Prim.Native.Nat.{ℕ, _≤_, _<_}
+use mathlib.Core.Option.{Option, none, some}
+use Prim.Native.Nat.{ℕ, zero, suc, _≤_, _<_}
 use native.Mathlib.Omega.{arith}
-use lib.Dec.{ltb, eqb}
+use lib.Dec.{eqb}
 use lib.IntN.{ℤ}
 use lib.ListN.{length}
 use borrow.Author.Tests.{leb-false, ltb-false, eqb-true, eqb-false, not-false}
-use Rattle.laws.proofs.Tests.{clash, and-left, and-right}
-use Rattle.rows.specs.Numbers.{queues, maxWeight, maxLength, ceiling}
+use Rattle.laws.proofs.Tests.{and-left, and-right}
+use Rattle.rows.specs.Numbers.{queues, maxWeight, maxLength}
+use Rattle.rows.proofs.Orderly.{within-low, within-high}
+use Rattle.rows.proofs.Virtual.{reached-yes}
+use Rattle.head.specs.declared.Event.the-variants.{Join, Leave, Reweight, Length, Grant, Return}
+use Rattle.head.specs.declared.Refusal.{Refusal}
+use Rattle.head.specs.Head.{isEmpty}
+use Rattle.head.specs.Refusals.{Check, _when_, firstOf, queueOutside, lengthOutside, notHolder, rowTaken, notAsking, lagBelow, ticksOutside, mayUse, checksFor}
 use Rattle.share.specs.declared.Table.{Table}
-use Rattle.share.specs.Table.{row, isEmpty}
-use Rattle.share.specs.Sound.{Sound}
-use Rattle.share.specs.Choice.{deadline}
-use Rattle.share.specs.Events.{chosen}
-use Rattle.share.specs.Refusals.{Check, _when_, firstOf, unsound, queueOutside, outside, lengthOutside, notHolder, rowTaken, notAsking, lagBelow, ceilingPassed, joinChecks, leaveChecks, releaseChecks, reweightChecks, lengthChecks, grantChecks, returnChecks, lagChecks}
-pub use Rattle.share.specs.Asks.{Joins, Leaves, Reweights, Lengthens, Grants, Returns}
-use Rattle.share.proofs.Refusals.{head-none}
+use Rattle.share.specs.Asks.{Joins, Leaves, Reweights, Lengthens, Grants, Returns}
+use Rattle.share.specs.Calls.{checksOf, releaseChecks, lagChecks}
 use Rattle.share.specs.Release.{done, released}
+use Rattle.share.specs.Sound.{Sound, sound}
+use Rattle.share.specs.Table.{row}
 use Rattle.share.proofs.Release.{frees-released}
 use Rattle.share.proofs.Sound.{sound-says}
-use Rattle.share.proofs.Virtual.{reached-yes}
+use Rattle.share.proofs.Totals.{sums-true}
+
+-- the test at a place of the list, counted from 0
+abbrev pub testAt : List Check → ℕ → Bool
+testAt [] k = false
+testAt ((why when applies) ∷ rest) zero = applies
+testAt ((why when applies) ∷ rest) (suc k) = testAt rest k
+
+pub head-none : (b : Bool) (this : Refusal) (rest : Option Refusal) → cond b (some this) rest ≡ none → (b ≡ false) × (rest ≡ none)
+head-none true this rest e = let z : _≡_ {A = ℕ} 0 1 = cc in absurd (omega arith)
+head-none false this rest e = (refl, e)
 
 -- none of the tests passed
-abbrev pub AllFail : List Check → Type 0
-AllFail [] = Unit {0}
-AllFail ((why when b) ∷ rest) = (b ≡ false) × AllFail rest
+pub fails-at : (checks : List Check) → firstOf checks ≡ none → (k : ℕ) → testAt checks k ≡ false
+fails-at [] e k = refl
+fails-at ((why when applies) ∷ rest) e zero = head-none applies why (firstOf rest) e .0
+fails-at ((why when applies) ∷ rest) e (suc k) = fails-at rest (head-none applies why (firstOf rest) e .1) k
 
-pub none-fail : (checks : List Check) → firstOf checks ≡ none → AllFail checks
-none-fail [] e = tt
-none-fail ((why when b) ∷ rest) e = let h = head-none b why (firstOf rest) e in (h .0, none-fail rest (h .1))
-
-is-sound : (t : Table) → unsound t ≡ false → Sound t
-unfolding unsound
+is-sound : (t : Table) → not (sound t) ≡ false → Sound t
 is-sound t e = sound-says t (not-false _ e)
 
 pub is-inside : (queue : ℕ) → queueOutside queue ≡ false → queue < queues
 unfolding queueOutside
 is-inside queue e = leb-false queues queue e
 
-or-left : (a b : Bool) → a || b ≡ false → a ≡ false
-or-left true b e = e
-or-left false b e = refl
-
-or-right : (a b : Bool) → a || b ≡ false → b ≡ false
-or-right true b e = absurd (clash refl e)
-or-right false b e = e
-
-pub within-low : (low high n : ℕ) → outside low high n ≡ false → low ≤ n
-unfolding outside
-within-low low high n e = ltb-false n low (or-left _ _ e)
-
-pub within-high : (low high n : ℕ) → outside low high n ≡ false → n ≤ high
-unfolding outside
-within-high low high n e = ltb-false high n (or-right (ltb n low) _ e)
-
 is-short : (length : ℕ) → lengthOutside length ≡ false → length ≤ maxLength
 unfolding lengthOutside
 is-short length e = ltb-false maxLength length e
 
-pub join-accepted : (t : Table) (queue weight length : ℕ) → firstOf (joinChecks t queue weight length) ≡ none → Joins t queue weight length
-unfolding joinChecks rowTaken
-join-accepted t queue weight length e =
-    let h = none-fail (joinChecks t queue weight length) e in
-    record {
-      was-sound = is-sound t (h .0);
-      inside = is-inside queue (h .1 .0);
-      weight-low = within-low 1 maxWeight weight (h .1 .1 .0);
-      weight-high = within-high 1 maxWeight weight (h .1 .1 .0);
-      length-high = is-short length (h .1 .1 .1 .0);
-      still = h .1 .1 .1 .1 .0;
-      free = not-false _ (h .1 .1 .1 .1 .1 .0);
-    }
+module _ (t : Table) (queue : ℕ) where
+  pub join-accepted : (weight length : ℕ) → firstOf (checksOf t (Join queue weight length)) ≡ none → Joins t queue weight length
+  unfolding checksOf checksFor rowTaken
+  join-accepted weight length e =
+      let fails = fails-at (checksOf t (Join queue weight length)) e in
+      record {
+        was-sound = is-sound t (fails 0);
+        inside = is-inside queue (fails 1);
+        weight-low = within-low 1 maxWeight weight (fails 2);
+        weight-high = within-high 1 maxWeight weight (fails 2);
+        length-high = is-short length (fails 3);
+        still = fails 4;
+        free = not-false _ (fails 5);
+      }
 
-pub leave-accepted : (t : Table) (queue : ℕ) → firstOf (leaveChecks t queue) ≡ none → Leaves t queue
-unfolding leaveChecks notAsking
-leave-accepted t queue e =
-    let h = none-fail (leaveChecks t queue) e in
-    record {
-      was-sound = is-sound t (h .0);
-      inside = is-inside queue (h .1 .0);
-      still = h .1 .1 .0;
-      asks = not-false _ (h .1 .1 .1 .0);
-    }
+  pub leave-accepted : firstOf (checksOf t (Leave queue)) ≡ none → Leaves t queue
+  unfolding checksOf checksFor notAsking
+  leave-accepted e =
+      let fails = fails-at (checksOf t (Leave queue)) e in
+      record { was-sound = is-sound t (fails 0); inside = is-inside queue (fails 1); still = fails 2; asks = not-false _ (fails 3) }
 
-pub reweight-accepted : (t : Table) (queue weight length : ℕ) → firstOf (reweightChecks t queue weight length) ≡ none → Reweights t queue weight length
-unfolding reweightChecks notAsking lagBelow
-reweight-accepted t queue weight length e =
-    let h = none-fail (reweightChecks t queue weight length) e in
-    record {
-      leaves =
-          record {
-            was-sound = is-sound t (h .0);
-            inside = is-inside queue (h .1 .0);
-            still = h .1 .1 .1 .1 .0;
-            asks = not-false _ (h .1 .1 .1 .1 .1 .0);
-          };
-      weight-low = within-low 1 maxWeight weight (h .1 .1 .0);
-      weight-high = within-high 1 maxWeight weight (h .1 .1 .0);
-      length-high = is-short length (h .1 .1 .1 .0);
-      owed = reached-yes t (row t queue .position) (not-false _ (h .1 .1 .1 .1 .1 .1 .0));
-    }
+  pub reweight-accepted : (weight length : ℕ) → firstOf (checksOf t (Reweight queue weight length)) ≡ none → Reweights t queue weight length
+  unfolding checksOf checksFor notAsking lagBelow
+  reweight-accepted weight length e =
+      let fails = fails-at (checksOf t (Reweight queue weight length)) e in
+      record {
+        leaves = record { was-sound = is-sound t (fails 0); inside = is-inside queue (fails 1); still = fails 4; asks = not-false _ (fails 5) };
+        weight-low = within-low 1 maxWeight weight (fails 2);
+        weight-high = within-high 1 maxWeight weight (fails 2);
+        length-high = is-short length (fails 3);
+        owed = reached-yes (row t queue .position) (t .head .total) (t .head .sum) (not-false _ (fails 6));
+      }
 
-pub length-accepted : (t : Table) (queue length : ℕ) → firstOf (lengthChecks t queue length) ≡ none → Lengthens t queue length
-unfolding lengthChecks notAsking
-length-accepted t queue length e =
-    let h = none-fail (lengthChecks t queue length) e in
-    record {
-      leaves =
-          record {
-            was-sound = is-sound t (h .0);
-            inside = is-inside queue (h .1 .0);
-            still = h .1 .1 .1 .0;
-            asks = not-false _ (h .1 .1 .1 .1 .0);
-          };
-      length-high = is-short length (h .1 .1 .0);
-    }
+  pub length-accepted : (length : ℕ) → firstOf (checksOf t (Length queue length)) ≡ none → Lengthens t queue length
+  unfolding checksOf checksFor notAsking
+  length-accepted length e =
+      let fails = fails-at (checksOf t (Length queue length)) e in
+      record {
+        leaves = record { was-sound = is-sound t (fails 0); inside = is-inside queue (fails 1); still = fails 3; asks = not-false _ (fails 4) };
+        length-high = is-short length (fails 2);
+      }
+
+  pub return-accepted : (used : ℕ) (early : Bool) → firstOf (checksOf t (Return queue used early)) ≡ none → Returns t queue used
+  unfolding checksOf checksFor notHolder ticksOutside
+  return-accepted used early e =
+      let fails = fails-at (checksOf t (Return queue used early)) e in
+      let holder = not-false _ (fails 2) in
+      record {
+        was-sound = is-sound t (fails 0);
+        inside = is-inside queue (fails 1);
+        held = and-left (t .head .out) (eqb queue (t .head .holder)) holder;
+        holds = eqb-true queue (t .head .holder) (and-right (t .head .out) (eqb queue (t .head .holder)) holder);
+        within = ltb-false (mayUse (t .head .ticks)) used (fails 3);
+      }
 
 above-none : (n : ℕ) → eqb n 0 ≡ false → 0 < n
 above-none n e = let h = eqb-false n 0 e in omega arith
 
-pub grant-accepted : (t : Table) → firstOf (grantChecks t) ≡ none → Grants t
-unfolding grantChecks isEmpty ceilingPassed
+pub grant-accepted : (t : Table) → firstOf (checksOf t Grant) ≡ none → Grants t
+unfolding checksOf checksFor isEmpty
 grant-accepted t e =
-    let h = none-fail (grantChecks t) e in
-    record {
-      was-sound = is-sound t (h .0);
-      still = h .1 .0;
-      present = above-none (t .total) (h .1 .1 .0);
-      deadline-high = ltb-false ceiling (deadline (row t (chosen t))) (h .1 .1 .1 .0);
-    }
-
-pub return-accepted : (t : Table) (queue used : ℕ) → firstOf (returnChecks t queue used) ≡ none → Returns t queue used
-unfolding returnChecks notHolder
-return-accepted t queue used e =
-    let h = none-fail (returnChecks t queue used) e in
-    let holder = not-false _ (h .1 .1 .0) in
-    record {
-      was-sound = is-sound t (h .0);
-      inside = is-inside queue (h .1 .0);
-      held = and-left (t .out) (eqb queue (t .holder)) holder;
-      holds = eqb-true queue (t .holder) (and-right (t .out) (eqb queue (t .holder)) holder);
-      within = ltb-false (t .ticks) used (h .1 .1 .1 .0);
-    }
+    let fails = fails-at (checksOf t Grant) e in
+    record { was-sound = is-sound t (fails 0); still = fails 1; present = above-none (t .head .total) (fails 2); fits = fails 3 }
 
 -- a sound table has nothing to release
 pub nothing-to-free : (t : Table) → firstOf (releaseChecks t) ≡ none → t ≡ released t
 unfolding releaseChecks
-nothing-to-free t e = frees-released (done (is-sound t (none-fail (releaseChecks t) e .0) .no-one-ready))
+nothing-to-free t e = let is = is-sound t (fails-at (releaseChecks t) e 0) in frees-released (sums-true (is .orderly-table)) (done (is .no-one-ready))
 
 -- a lag report has a sound table and a list of 64 entries or more
 pub lags-accepted : (t : Table) (given : List ℤ) → firstOf (lagChecks t given) ≡ none → Sound t × (queues ≤ length given)
 unfolding lagChecks
 lags-accepted t given e =
-    let h = none-fail (lagChecks t given) e in
-    (is-sound t (h .0), ltb-false (length given) queues (h .1 .0))
+    let fails = fails-at (lagChecks t given) e in
+    (is-sound t (fails 0), ltb-false (length given) queues (fails 1))

@@ -1,20 +1,16 @@
 -- Putting one row in another's place: the other rows stay, and W and A stay true sums.
 use mathlib.Core.Path.{_≡_}
 use mathlib.Core.Logic.{_≢_}
-use Prim.Native.Nat.{ℕ, _<_}
+use Prim.Native.Nat.{ℕ, _≤_, _<_}
 use native.Mathlib.Omega.{arith}
 use lib.ListN.{length, length-set}
 use lib.Seq.{getD-set-same, getD-set-other}
-use Rattle.laws.proofs.Sums.{sum-set}
+use Rattle.laws.proofs.Sums.{sum-set, sum-at}
 use Rattle.rows.specs.declared.Row.{Row}
 use Rattle.rows.specs.Row.{blank, weightIn, momentIn}
+use Rattle.head.specs.Head.{summed}
 use Rattle.share.specs.declared.Table.{Table}
-use Rattle.share.specs.Table.{row, trueTotal, trueSum, placed}
-
--- W and A are what they are said to be
-pub record TrueSums (t : Table) : Type 0 where
-  pub total-true : t .total ≡ trueTotal (t .rows)
-  pub sum-true : t .sum ≡ trueSum (t .rows)
+use Rattle.share.specs.Table.{row, trueTotal, trueSum, placed, TrueSums}
 
 module _ (t : Table) (i : ℕ) (r : Row) where
   pub placed-length : length (placed t i r .rows) ≡ length (t .rows)
@@ -30,9 +26,19 @@ module _ (t : Table) (i : ℕ) (r : Row) where
   placed-other j h = getD-set-other (t .rows) i j r blank h
 
   pub placed-true : i < length (t .rows) → TrueSums t → TrueSums (placed t i r)
-  unfolding placed row trueTotal trueSum
+  unfolding placed summed row trueTotal trueSum
   placed-true h s =
       record {
         total-true = omega (arith, s .total-true, sum-set weightIn (t .rows) i r blank h);
         sum-true = omega (arith, s .sum-true, sum-set momentIn (t .rows) i r blank h);
       }
+
+-- a row's part in W and in A is at most the whole, so that a departure can take it out
+module _ (t : Table) (i : ℕ) (sums : TrueSums t) (inside : i < length (t .rows)) where
+  pub weight-within : weightIn (row t i) ≤ t .head .total
+  unfolding row trueTotal
+  weight-within = omega (arith, sums .total-true, sum-at weightIn (t .rows) i blank inside)
+
+  pub moment-within : momentIn (row t i) ≤ t .head .sum
+  unfolding row trueSum
+  moment-within = omega (arith, sums .sum-true, sum-at momentIn (t .rows) i blank inside)

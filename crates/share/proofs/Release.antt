@@ -10,22 +10,21 @@ use native.Mathlib.Nat.{zero-add}
 use native.Mathlib.Omega.{arith}
 use lib.ListN.{length, getD}
 use lib.Seq.{set-comm}
-use borrow.Author.Tests.{leb-true, le-leb}
 use Rattle.laws.specs.Lists.{sumOf, firstFrom}
 use Rattle.laws.proofs.First.{first-none, first-some}
 use Rattle.laws.proofs.Means.{still-reached}
 use Rattle.laws.proofs.Sums.{sum-set, sum-bound}
-use Rattle.laws.proofs.Tests.{clash, le-or-lt, and-left, and-right, and-both}
+use Rattle.laws.proofs.Tests.{clash, le-or-lt}
 use Rattle.rows.specs.declared.Row.{Row}
 use Rattle.rows.specs.declared.State.{State}
 use Rattle.rows.specs.declared.State.the-variants.{Free, Going, Asking}
 use Rattle.rows.specs.Row.{blank, isFree, isGoing, weightIn, momentIn}
+use Rattle.head.specs.Head.{summed}
 use Rattle.share.specs.declared.Table.{Table}
-use Rattle.share.specs.Asks.{readyBy}
-use Rattle.share.specs.Table.{row, placed}
+use Rattle.share.specs.Table.{row, placed, TrueSums}
 use Rattle.share.specs.Sound.{Ready, ready, Calm}
 use Rattle.share.specs.Release.{freed, Frees, done, one, freeing, released}
-use Rattle.share.proofs.Placed.{placed-other, placed-length, placed-same}
+use Rattle.share.proofs.Placed.{placed-other, placed-length, placed-same, placed-true}
 use Rattle.share.proofs.Sound.{ready-says, says-ready, row-past}
 
 counted-in : (s : State) (n : ℕ) → isGoing s ≡ true → cond (isFree s) 0 n ≡ n
@@ -34,12 +33,12 @@ counted-in Going n e = refl
 counted-in (Asking q) n e = refl
 
 module _ (t : Table) (i : ℕ) where
-  pub freed-total : freed t i .total ≡ t .total - weightIn (row t i)
-  unfolding freed placed weightIn
+  pub freed-total : freed t i .head .total ≡ t .head .total - weightIn (row t i)
+  unfolding freed placed summed weightIn
   freed-total = omega arith
 
-  pub freed-sum : freed t i .sum ≡ t .sum - momentIn (row t i)
-  unfolding freed placed momentIn
+  pub freed-sum : freed t i .head .sum ≡ t .head .sum - momentIn (row t i)
+  unfolding freed placed summed momentIn
   freed-sum = omega arith
 
   pub freed-other : (j : ℕ) → j ≢ i → row (freed t i) j ≡ row t j
@@ -68,12 +67,12 @@ stays-ready t i j ri rj ne =
       going = rw same (rj .going);
       level =
           rw (same, freed-total t i, freed-sum t i, ready-weight t i ri, ready-moment t i ri)
-          (still-reached (row t j .position) (row t i .position) (row t i .weight) (t .total) (t .sum) (ri .level) (rj .level));
+          (still-reached (row t j .position) (row t i .position) (row t i .weight) (t .head .total) (t .head .sum) (ri .level) (rj .level));
     }
 
 -- two tables that agree in rows and sums, and in the rest by computation
-same-table : {t u : Table} → t .rows ≡ u .rows → t .total ≡ u .total → t .sum ≡ u .sum → t .limit ≡ u .limit → t .out ≡ u .out → t .holder ≡ u .holder → t .ticks ≡ u .ticks → t ≡ u
-same-table a b c d e f g = λ i. record { rows = a i; total = b i; sum = c i; limit = d i; out = e i; holder = f i; ticks = g i }
+same-table : {t u : Table} → t .rows ≡ u .rows → t .head .total ≡ u .head .total → t .head .sum ≡ u .head .sum → t .head .terms ≡ u .head .terms → t .head .out ≡ u .head .out → t .head .holder ≡ u .head .holder → t .head .ticks ≡ u .head .ticks → t ≡ u
+same-table a b c d e f g = λ i. record { rows = a i; head = record { total = b i; sum = c i; terms = d i; out = e i; holder = f i; ticks = g i } }
 
 module _ (t : Table) (i j : ℕ) (apart : j ≢ i) where
   same : row (freed t i) j ≡ row t j
@@ -86,18 +85,27 @@ module _ (t : Table) (i j : ℕ) (apart : j ≢ i) where
   unfolding freed placed
   rows-commute = set-comm (t .rows) i j blank blank (λ e. apart (sym e))
 
-  total-commutes : freed (freed t i) j .total ≡ freed (freed t j) i .total
+  total-commutes : freed (freed t i) j .head .total ≡ freed (freed t j) i .head .total
   total-commutes =
       omega
       (arith, freed-total (freed t i) j, freed-total t i, freed-total (freed t j) i, freed-total t j, ap weightIn same, ap weightIn other)
 
-  sum-commutes : freed (freed t i) j .sum ≡ freed (freed t j) i .sum
+  sum-commutes : freed (freed t i) j .head .sum ≡ freed (freed t j) i .head .sum
   sum-commutes =
       omega (arith, freed-sum (freed t i) j, freed-sum t i, freed-sum (freed t j) i, freed-sum t j, ap momentIn same, ap momentIn other)
 
   commute : freed (freed t i) j ≡ freed (freed t j) i
-  unfolding freed placed
+  unfolding freed placed summed
   commute = same-table rows-commute total-commutes sum-commutes refl refl refl refl
+
+pub ready-inside : (t : Table) (i : ℕ) → Ready t i → i < length (t .rows)
+ready-inside t i r =
+    ⊎-elim (λ past. absurd (clash (r .going) (ap (λ (x : Row). isGoing (x .state)) (row-past t i past)))) (λ l. l) (le-or-lt (length (t .rows)) i)
+
+-- freeing a ready row keeps W and A true sums
+pub freed-true : (t : Table) (i : ℕ) → Ready t i → TrueSums t → TrueSums (freed t i)
+unfolding freed
+freed-true t i r sums = placed-true t i blank (ready-inside t i r) sums
 
 -- one step of `any-first`: the rest of the way, with i freed first, joined on again
 first-then : {t u : Table} (i j : ℕ) → Ready t i → Ready t j → Frees (freed t j) u → (Ready (freed t j) i → Frees (freed (freed t j) i) u) → Dec (j ≡ i) → Frees (freed t i) u
@@ -106,14 +114,16 @@ first-then {t} {u} i j ri rj rest again (no apart) =
     one {u = u} j (stays-ready t i j ri rj apart)
     (rw (commute t i j apart) (again (stays-ready t j i rj ri (λ e. apart (sym e)))))
 
-pub any-first : {t u : Table} (i : ℕ) → Ready t i → Frees t u → Frees (freed t i) u
-any-first i r (done calm) = absurd (calm i r)
-any-first i r (one j rj rest) = first-then i j r rj rest (λ ready′. any-first i ready′ rest) (ℕ-discrete j i)
+-- Of a table whose W and A are true sums: today no step of the proof looks at the sums, but what the last row freed leaves behind (T-02) will.
+pub any-first : {t u : Table} (i : ℕ) → TrueSums t → Ready t i → Frees t u → Frees (freed t i) u
+any-first i sums r (done calm) = absurd (calm i r)
+any-first {t} i sums r (one j rj rest) =
+    first-then i j r rj rest (λ ready′. any-first i (freed-true t j rj sums) ready′ rest) (ℕ-discrete j i)
 
-pub same-end : {t u v : Table} → Frees t u → Frees t v → u ≡ v
-same-end (done calm) (done calm′) = refl
-same-end (done calm) (one i r rest) = absurd (calm i r)
-same-end (one i r rest) way = same-end rest (any-first i r way)
+pub same-end : {t u v : Table} → TrueSums t → Frees t u → Frees t v → u ≡ v
+same-end sums (done calm) (done calm′) = refl
+same-end sums (done calm) (one i r rest) = absurd (calm i r)
+same-end {t} sums (one i r rest) way = same-end (freed-true t i r sums) rest (any-first i sums r way)
 
 -- how many rows are going
 goes : Row → ℕ
@@ -129,10 +139,6 @@ goes-most false = omega arith
 goers-most : (t : Table) → goers t ≤ length (t .rows)
 unfolding goers goes
 goers-most t = omega (arith, sum-bound goes (t .rows) blank 1 (λ i l. goes-most (isGoing (getD (t .rows) i blank .state))))
-
-pub ready-inside : (t : Table) (i : ℕ) → Ready t i → i < length (t .rows)
-ready-inside t i r =
-    ⊎-elim (λ past. absurd (clash (r .going) (ap (λ (x : Row). isGoing (x .state)) (row-past t i past)))) (λ l. l) (le-or-lt (length (t .rows)) i)
 
 pub goers-fall : (t : Table) (i : ℕ) → Ready t i → goers (freed t i) + 1 ≡ goers t
 unfolding goers goes freed placed row
@@ -164,18 +170,5 @@ pub released-frees : (t : Table) → Frees t (released t)
 unfolding released
 released-frees t = freeing-frees (length (t .rows)) t (goers-most t)
 
-pub frees-released : {t u : Table} → Frees t u → u ≡ released t
-frees-released {t} way = same-end way (released-frees t)
-
--- the test with W and A by themselves
-pub ready-by : (t : Table) (i : ℕ) → readyBy (t .total) (t .sum) (row t i) ≡ true → Ready t i
-unfolding readyBy
-ready-by t i e =
-    record {
-      going = and-left _ _ e;
-      level = leb-true (row t i .position * t .total) (t .sum) (and-right (isGoing (row t i .state)) _ e);
-    }
-
-pub by-ready : (t : Table) (i : ℕ) → Ready t i → readyBy (t .total) (t .sum) (row t i) ≡ true
-unfolding readyBy
-by-ready t i r = and-both (r .going) (le-leb (row t i .position * t .total) (t .sum) (r .level))
+pub frees-released : {t u : Table} → TrueSums t → Frees t u → u ≡ released t
+frees-released {t} sums way = same-end sums way (released-frees t)

@@ -3,7 +3,7 @@ use mathlib.Core.Path.{_≡_, refl, subst⁻¹, _∙_}
 use mathlib.Core.Bool.{true, false}
 use Prim.Native.Nat.{ℕ, _*_, _≤_, _<_}
 use native.Mathlib.Decide.{ℕ-discrete}
-use native.Mathlib.Nat.{mul-le-mul, mul-le-mul-right}
+use native.Mathlib.Nat.{mul-le-mul-right}
 use native.Mathlib.Omega.{arith}
 use lib.ListN.{length}
 use Rattle.laws.proofs.Tests.{clash}
@@ -13,66 +13,66 @@ use Rattle.share.specs.declared.Table.{Table}
 use Rattle.share.specs.Asks.{Placing, Ahead, Settling, Leaves}
 use Rattle.share.specs.Release.{freed, Frees, done, one}
 use Rattle.share.specs.Sound.{Calm}
-use Rattle.share.specs.Survey.{beyond}
+use Rattle.rows.specs.Fits.{Crossing}
+use Rattle.rows.proofs.Virtual.{yes-reached}
 use Rattle.share.specs.Table.{row, AtMostV, placed}
 use Rattle.share.specs.Events.{leaving, left}
 use Rattle.share.proofs.Keeps.{placed-keeps}
-use Rattle.share.proofs.Kept.{placed-out}
+use Rattle.share.proofs.Departing.{placed-out}
 use Rattle.share.proofs.Placed.{placed-same, placed-other}
 use Rattle.share.proofs.Release.{freed-same, freed-other, released-frees}
-use Rattle.share.proofs.Virtual.{yes-reached}
-use Rattle.share.proofs.Surveying.{total-most}
+use Rattle.share.proofs.Totals.{total-most}
 
-module _ (t : Table) (going : ℕ) (s : Settling t going) where
-  pub settling-fits : going * t .total ≤ beyond * 1024
-  settling-fits = mul-le-mul (s .ahead .going-high) (total-most t (s .orderly))
+module _ (t : Table) (nearest : ℕ) (s : Settling t nearest) where
+  pub settling-crosses : Crossing nearest (t .head .total)
+  settling-crosses = record { position-high = s .ahead .nearest-high; total-high = total-most t (s .orderly) }
 
-  pub settling-calm : t .sum < going * t .total → Calm t
-  settling-calm h i r = omega (arith, r .level, mul-le-mul-right (t .total) (s .ahead .before i (r .going)))
+  pub settling-calm : t .head .sum < nearest * t .head .total → Calm t
+  settling-calm h i r = omega (arith, r .level, mul-le-mul-right (t .head .total) (s .ahead .before i (r .going)))
 
-ahead-row : (t : Table) (i : ℕ) (r : Row) (going : ℕ) → i < length (t .rows) → Ahead t going → (isGoing (r .state) ≡ true → going ≤ r .position) → (j : ℕ) → Dec (j ≡ i) → isGoing (row (placed t i r) j .state) ≡ true → going ≤ row (placed t i r) j .position
-ahead-row t i r going inside ahead new j (yes e) =
-    subst⁻¹ (λ (k : ℕ). isGoing (row (placed t i r) k .state) ≡ true → going ≤ row (placed t i r) k .position) e
-    (subst⁻¹ (λ (x : Row). isGoing (x .state) ≡ true → going ≤ x .position) (placed-same t i r inside) new)
-ahead-row t i r going inside ahead new j (no apart) =
-    subst⁻¹ (λ (x : Row). isGoing (x .state) ≡ true → going ≤ x .position) (placed-other t i r j apart) (ahead .before j)
+ahead-row : (t : Table) (i : ℕ) (r : Row) (nearest : ℕ) → i < length (t .rows) → Ahead t nearest → (isGoing (r .state) ≡ true → nearest ≤ r .position) → (j : ℕ) → Dec (j ≡ i) → isGoing (row (placed t i r) j .state) ≡ true → nearest ≤ row (placed t i r) j .position
+ahead-row t i r nearest inside ahead new j (yes e) =
+    subst⁻¹ (λ (k : ℕ). isGoing (row (placed t i r) k .state) ≡ true → nearest ≤ row (placed t i r) k .position) e
+    (subst⁻¹ (λ (x : Row). isGoing (x .state) ≡ true → nearest ≤ x .position) (placed-same t i r inside) new)
+ahead-row t i r nearest inside ahead new j (no apart) =
+    subst⁻¹ (λ (x : Row). isGoing (x .state) ≡ true → nearest ≤ x .position) (placed-other t i r j apart) (ahead .before j)
 
 -- after a row was placed that is not going, or not before the position
-pub placed-settling : (t : Table) (i : ℕ) (r : Row) (going : ℕ) → Placing t i r → t .out ≡ false → Ahead t going → (isGoing (r .state) ≡ true → going ≤ r .position) → Settling (placed t i r) going
-placed-settling t i r going p still ahead new =
+pub placed-settling : (t : Table) (i : ℕ) (r : Row) (nearest : ℕ) → Placing t i r → t .head .out ≡ false → Ahead t nearest → (isGoing (r .state) ≡ true → nearest ≤ r .position) → Settling (placed t i r) nearest
+placed-settling t i r nearest p still ahead new =
     record {
       orderly = placed-keeps t i r still (p .orderly) (p .inside) (p .new);
       still = placed-out t i r ∙ still;
       ahead =
           record {
-            going-high = ahead .going-high;
-            before = λ j. ahead-row t i r going (omega (arith, p .inside, p .orderly .one-each)) ahead new j (ℕ-discrete j i);
+            nearest-high = ahead .nearest-high;
+            before = λ j. ahead-row t i r nearest (omega (arith, p .inside, p .orderly .one-each)) ahead new j (ℕ-discrete j i);
           };
     }
 
 -- a position before another is ahead too
-pub ahead-less : (t : Table) (going less : ℕ) → less ≤ going → Ahead t going → Ahead t less
-ahead-less t going less h ahead = record { going-high = omega (arith, ahead .going-high); before = λ i g. omega (arith, ahead .before i g) }
+pub ahead-less : (t : Table) (nearest less : ℕ) → less ≤ nearest → Ahead t nearest → Ahead t less
+ahead-less t nearest less h ahead = record { nearest-high = omega (arith, ahead .nearest-high); before = λ i g. omega (arith, ahead .before i g) }
 
 -- a release frees rows and moves none
-freed-ahead : (t : Table) (i going : ℕ) → Ahead t going → Ahead (freed t i) going
-freed-ahead t i going ahead = record { going-high = ahead .going-high; before = λ j. by j (ℕ-discrete j i) }
+freed-ahead : (t : Table) (i nearest : ℕ) → Ahead t nearest → Ahead (freed t i) nearest
+freed-ahead t i nearest ahead = record { nearest-high = ahead .nearest-high; before = λ j. by j (ℕ-discrete j i) }
   where
-    by : (j : ℕ) → Dec (j ≡ i) → isGoing (row (freed t i) j .state) ≡ true → going ≤ row (freed t i) j .position
+    by : (j : ℕ) → Dec (j ≡ i) → isGoing (row (freed t i) j .state) ≡ true → nearest ≤ row (freed t i) j .position
     by j (yes e) =
-        subst⁻¹ (λ (k : ℕ). isGoing (row (freed t i) k .state) ≡ true → going ≤ row (freed t i) k .position) e
-        (subst⁻¹ (λ (x : Row). isGoing (x .state) ≡ true → going ≤ x .position) (freed-same t i) (λ g. absurd (clash g refl)))
-    by j (no apart) = subst⁻¹ (λ (x : Row). isGoing (x .state) ≡ true → going ≤ x .position) (freed-other t i j apart) (ahead .before j)
+        subst⁻¹ (λ (k : ℕ). isGoing (row (freed t i) k .state) ≡ true → nearest ≤ row (freed t i) k .position) e
+        (subst⁻¹ (λ (x : Row). isGoing (x .state) ≡ true → nearest ≤ x .position) (freed-same t i) (λ g. absurd (clash g refl)))
+    by j (no apart) = subst⁻¹ (λ (x : Row). isGoing (x .state) ≡ true → nearest ≤ x .position) (freed-other t i j apart) (ahead .before j)
 
-pub frees-ahead : {t u : Table} (going : ℕ) → Frees t u → Ahead t going → Ahead u going
-frees-ahead going (done calm) ahead = ahead
-frees-ahead {t} going (one i r rest) ahead = frees-ahead going rest (freed-ahead t i going ahead)
+pub frees-ahead : {t u : Table} (nearest : ℕ) → Frees t u → Ahead t nearest → Ahead u nearest
+frees-ahead nearest (done calm) ahead = ahead
+frees-ahead {t} nearest (one i r rest) ahead = frees-ahead nearest rest (freed-ahead t i nearest ahead)
 
 -- a queue that was freed leaves no going row behind
-pub left-ahead : (t : Table) (queue going : ℕ) → Leaves t queue → AtMostV t (row t queue .position) → Ahead t going → Ahead (left t queue) going
+pub left-ahead : (t : Table) (queue nearest : ℕ) → Leaves t queue → AtMostV t (row t queue .position) → Ahead t nearest → Ahead (left t queue) nearest
 unfolding left leaving
-left-ahead t queue going l owed ahead =
-    frees-ahead going (released-frees (placed t queue (leaving t (row t queue))))
-    (rw (yes-reached t (row t queue .position) owed)
-    (placed-settling t queue blank going (record { orderly = l .was-sound .orderly-table; inside = l .inside; new = (refl, refl) }) (l .still) ahead
+left-ahead t queue nearest l owed ahead =
+    frees-ahead nearest (released-frees (placed t queue (leaving t (row t queue))))
+    (rw (yes-reached (row t queue .position) (t .head .total) (t .head .sum) owed)
+    (placed-settling t queue blank nearest (record { orderly = l .was-sound .orderly-table; inside = l .inside; new = (refl, refl) }) (l .still) ahead
     (λ g. absurd (clash g refl)) .ahead))

@@ -1,12 +1,14 @@
 -- Document 01, "A row and a sound table": the table and virtual time.
+use mathlib.Core.Path.{_≡_}
 use mathlib.Core.Bool.{Bool}
 use mathlib.Core.List.{List}
-use Prim.Native.Nat.{ℕ, _+_, _-_, _*_, _≤_}
-use lib.Dec.{leb, eqb}
+use Prim.Native.Nat.{ℕ, _+_, _-_}
 use lib.ListN.{getD, set}
 use Rattle.laws.specs.Lists.{sumOf}
 use Rattle.rows.specs.declared.Row.{Row}
 use Rattle.rows.specs.Row.{blank, weightIn, momentIn}
+use Rattle.head.specs.Head as Head
+use Rattle.head.specs.Head.{sliced, summed}
 use Rattle.share.specs.declared.Table.{Table}
 
 -- the row of a queue number; past the last there is none
@@ -21,32 +23,27 @@ trueTotal rows = sumOf weightIn rows
 unfoldable pub trueSum : List Row → ℕ
 trueSum rows = sumOf momentIn rows
 
--- "Virtual time V is the fraction A / W and exists when W is above 0." A position is at most V where position x W is at most A:
--- the cross product, never a rounded quotient.
+-- a position is at most V, and the same as a test (rows' Virtual has the cross product)
 abbrev pub AtMostV : Table → ℕ → Type 0
-AtMostV t position = position * t .total ≤ t .sum
+AtMostV t position = Head.AtMostV (t .head) position
 
--- the same as a test; of a row's position it says that V has reached it, which is a lag of 0 or more
-unfoldable pub reached : Table → ℕ → Bool
-reached t position = leb (position * t .total) (t .sum)
-
-unfoldable pub isEmpty : Table → Bool
-isEmpty t = eqb (t .total) 0
+abbrev pub reached : Table → ℕ → Bool
+reached t position = Head.reachedBy (t .head) position
 
 -- the table with a row put in another's place: the old row's share leaves W and A, the new row's enters
 unfoldable pub placed : Table → ℕ → Row → Table
 placed t i r =
     record {
       rows = set (t .rows) i r;
-      total = t .total + weightIn r - weightIn (row t i);
-      sum = t .sum + momentIn r - momentIn (row t i);
-      limit = t .limit;
-      out = t .out;
-      holder = t .holder;
-      ticks = t .ticks;
+      head =
+          summed (t .head) (t .head .total + weightIn r - weightIn (row t i)) (t .head .sum + momentIn r - momentIn (row t i));
     }
 
 -- the table with a slice out, or with none
 unfoldable pub withSlice : Table → Bool → ℕ → ℕ → Table
-withSlice t out holder ticks =
-    record { rows = t .rows; total = t .total; sum = t .sum; limit = t .limit; out = out; holder = holder; ticks = ticks }
+withSlice t out holder ticks = record { rows = t .rows; head = sliced (t .head) out holder ticks }
+
+-- W and A are what they are said to be
+pub record TrueSums (t : Table) : Type 0 where
+  pub total-true : t .head .total ≡ trueTotal (t .rows)
+  pub sum-true : t .head .sum ≡ trueSum (t .rows)

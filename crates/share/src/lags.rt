@@ -1,47 +1,20 @@
 // The lag report: how much time the engine owes each row, below zero where the row owes.
 ghost use mathlib.Core.Path.{_≡_};
-ghost use Prim.Native.Nat.{_*_, _^_, _≤_};
+ghost use Prim.Native.Nat.{_≤_};
 ghost use lib.ListN.{length};
-ghost use Rattle.laws.specs.Difference.{_⊖_};
-ghost use Rattle.share.specs.Asks as asks;
-ghost use Rattle.share.specs.Lag as lag;
+ghost use Rattle.share.specs.LagList.{lagsInto};
+ghost use Rattle.share.specs.Sound.{Orderly};
 use crate::Table;
-use rows::Row;
-
-// Exact below, at and above zero: both parts are at most 2 to the 62nd.
-fn difference(due: u64, had: u64) -> i64
-    requires { ⌜ (due ≤ 2 ^ 62) × (had ≤ 2 ^ 62) ⌝ }
-    ensures { λ r. ⌜ r ≡ due ⊖ had ⌝ }
-{
-    due as i64 - had as i64
-}
-
-// weight x (A - W x position): equation 3 of the report over the common denominator.
-fn lag_by(weight: u64, position: u64, total: u64, sum: u64) -> i64
-    requires { ⌜ asks.Lagging weight position total sum ⌝ }
-    ensures { λ r. ⌜ r ≡ weight * sum ⊖ weight * (total * position) ⌝ }
-{
-    difference(weight * sum, weight * (total * position))
-}
 
 impl Table {
-    fn lag_of(self, row: Row) -> i64
-        requires { ⌜ (asks.Orderly self) × (asks.OrderlyRow row) ⌝ }
-        ensures { λ r. ⌜ r ≡ lag.lagOf self row ⌝ }
-    {
-        let total = self.total;
-        let sum = self.sum;
-        lag_by(row.weight, row.position, total, sum)
-    }
-
     pub(crate) fn write_lags(self, list: &mut [i64])
-        requires { ⌜ (asks.Orderly self) × (64 ≤ length (now list)) ⌝ }
-        ensures { λ _. ⌜ now (list .exit) ≡ lag.lagsInto self (now (list .entry)) ⌝ }
+        requires { ⌜ (Orderly self) × (64 ≤ length (now list)) ⌝ }
+        ensures { λ _. ⌜ now (list .exit) ≡ lagsInto self (now (list .entry)) ⌝ }
     {
         let mut i: usize = 0;
         while i < 64 {
             let row = self.rows[i];
-            list[i] = self.lag_of(row);
+            list[i] = self.head.lag_of(row);
             i += 1;
         }
     }

@@ -1,103 +1,42 @@
 // The share table of one render engine: queues share it by weight, a slice at a time.
 ghost use mathlib.Core.Path.{_≡_};
 ghost use Prim.Native.Nat.{_≤_};
+ghost use Rattle.rows.specs.Numbers.{maxTotal};
 ghost use Rattle.share.specs.Events.{emptyTable};
-ghost use Rattle.share.specs.Calls.{accepted, freshReply, grantReply, joinReply, lagList, lagReply, leaveReply, lengthReply, refused, releaseReply, reportedReply, returnReply, reweightReply};
-ghost use Rattle.share.specs.Answers.{number};
-ghost use Rattle.share.specs.Asks as asks;
-ghost use Rattle.share.specs.Refusals as checks;
-ghost use Rattle.share.specs.Sound.{sound};
-ghost use Rattle.share.specs.Runs.{step};
+ghost use Rattle.share.specs.Calls.{accepted, freshReply, grantReply, joinReply, lagList, lagReply, leaveReply, lengthReply, refused, releaseReply, reportedReply, returnReply, reweightReply, step};
 
-mod events;
+mod changes;
 mod lags;
-mod refuse;
-mod survey;
+mod soundness;
 
-use events::charged;
-use events::exchanged;
-use events::moment;
-use refuse::NO_REASON;
-use refuse::Reasons;
-use refuse::Verdict;
+pub use head::Answer;
+pub use head::BROKEN;
+pub use head::Event;
+pub use head::Head;
+pub use head::Line;
+pub use head::Refusal;
+pub use head::Shown;
+use head::Verdict;
 use rows::Row;
-use rows::State;
-use survey::UNSEEN;
-use survey::first_row;
-use survey::lesser;
-use survey::look_at;
-use survey::place;
-use survey::seen_next;
+pub use rows::Terms;
+use rows::UNSEEN;
+use rows::charged;
+use rows::exchanged;
+use rows::first_row;
+use rows::moment;
+use rows::place;
+use rows::reached;
+use rows::seen_after;
 
-// W is total and A is sum; holder and ticks are those of the slice that is out, and zero when none is.
 pub struct Table {
     pub rows: [Row; 64],
-    pub total: u64,
-    pub sum: u64,
-    pub limit: u64,
-    pub out: bool,
-    pub holder: u64,
-    pub ticks: u64,
-}
-
-// Why a call was refused, in the order in which the reasons are looked for.
-pub enum Refusal {
-    Unsound,
-    QueueOutside,
-    WeightOutside,
-    LengthOutside,
-    SliceOut,
-    NotHolder,
-    RowTaken,
-    NotAsking,
-    LagBelow,
-    TicksOutside,
-    TableEmpty,
-    CeilingPassed,
-    ListShort,
-    LimitOutside,
-}
-
-pub enum Answer {
-    Accepted,
-    Granted { queue: u64, slice: u64 },
-    Reported { denominator: u64 },
-    Refused(Refusal),
+    pub head: Head,
 }
 
 // What every call hands back: its answer, and the table beside it.
 pub struct Reply {
     pub answer: Answer,
     pub table: Table,
-}
-
-pub enum Event {
-    Fresh {
-        limit: u64,
-    },
-    Join {
-        queue: u64,
-        weight: u64,
-        length: u64,
-    },
-    Leave {
-        queue: u64,
-    },
-    Reweight {
-        queue: u64,
-        weight: u64,
-        length: u64,
-    },
-    Length {
-        queue: u64,
-        length: u64,
-    },
-    Grant,
-    Return {
-        queue: u64,
-        used: u64,
-        early: bool,
-    },
 }
 
 impl Table {
@@ -113,31 +52,31 @@ impl Table {
 
     pub const CEILING: u64 = rows::CEILING;
 
-    // A table of free rows, whatever the limit: `fresh` is the call that looks at it.
-    pub fn empty(limit: u64) -> Table
-        ensures { λ r. ⌜ r ≡ emptyTable limit ⌝ }
+    // What the table that a refused fresh gives was made with.
+    pub const LEAST_TERMS: Terms = Terms { limit: 1 };
+
+    // A table of free rows, whatever the terms: `fresh` is the call that looks at them.
+    pub fn empty(terms: Terms) -> Table
+        ensures { λ r. ⌜ r ≡ emptyTable terms ⌝ }
     {
-        let blank = Row {
-            weight: 0,
-            position: 0,
-            state: State::Free,
-        };
         Table {
-            rows: [blank; 64],
-            total: 0,
-            sum: 0,
-            limit,
-            out: false,
-            holder: 0,
-            ticks: 0,
+            rows: [rows::BLANK; 64],
+            head: Head {
+                total: 0,
+                sum: 0,
+                terms,
+                out: false,
+                holder: 0,
+                ticks: 0,
+            },
         }
     }
 
     // Refused, it has no table to hand back and gives the empty one with slice limit 1.
-    pub fn fresh(limit: u64) -> Reply
-        ensures { λ r. ⌜ r ≡ freshReply limit ⌝ }
+    pub fn fresh(terms: Terms) -> Reply
+        ensures { λ r. ⌜ r ≡ freshReply terms ⌝ }
     {
-        Table::empty(1).apply(Event::Fresh { limit })
+        Table::empty(Table::LEAST_TERMS).apply(Event::Fresh { terms })
     }
 
     // The queue enters at the least whole number not below V and opens its first request.
@@ -162,11 +101,7 @@ impl Table {
     pub fn release(self) -> Reply
         ensures { λ r. ⌜ r ≡ releaseReply self ⌝ }
     {
-        let reasons = Reasons {
-            unsound: !self.is_sound(),
-            ..NO_REASON
-        };
-        match reasons.first() {
+        match Verdict::Fine.or(Refusal::Unsound, !self.is_sound()) {
             Verdict::Refused(why) => self.refused(why),
             Verdict::Fine => self.accepted(),
         }
@@ -209,12 +144,10 @@ impl Table {
         ensures told { λ r. ⌜ r ≡ lagReply self (now (list .entry)) ⌝ }
         ensures written { λ r. ⌜ now (list .exit) ≡ lagList self (now (list .entry)) ⌝ }
     {
-        let reasons = Reasons {
-            unsound: !self.is_sound(),
-            list_short: list.len() < 64,
-            ..NO_REASON
-        };
-        match reasons.first() {
+        let verdict = Verdict::Fine
+            .or(Refusal::Unsound, !self.is_sound())
+            .or(Refusal::ListShort, list.len() < 64);
+        match verdict {
             Verdict::Refused(why) => self.refused(why),
             Verdict::Fine => {
                 self.write_lags(list);
@@ -229,65 +162,64 @@ impl Table {
     pub fn apply(self, event: Event) -> Reply
         ensures { λ r. ⌜ r ≡ step self event ⌝ }
     {
+        let head = self.head;
         let mut t = self;
-        let total = t.total;
-        let sum = t.sum;
-        let holder = t.holder;
-        let steps = rows::STEPS;
+        let total = head.total;
+        let sum = head.sum;
+        let terms = head.terms;
         let mut walked = UNSEEN;
         let mut i = first_row(total);
         while i < 64 {
             let row = t.rows[i];
-            let seeing = look_at(row, &steps, total, sum);
-            walked = seen_next(walked, i as u64, seeing);
+            walked = seen_after(walked, i as u64, row, total, sum, terms);
             let faults = walked.faults;
             if 0 < faults {
                 break;
             }
             i += 1;
         }
-        let holding = place(holder);
+        let holding = place(head.holder);
         let held = t.rows[holding];
-        let seen = t.survey(walked, held);
-        // The row that the event names.
-        let at = place(event.named());
+        let seen = head.survey(walked, held);
+        // The row that decides on the event.
+        let at = place(event.concerns(seen.queue));
         let row = t.rows[at];
         let mut answer = Answer::Accepted;
-        match t.reasons(event, seen, row).first() {
+        match head.verdict(event, seen.sound, row) {
             Verdict::Refused(why) => {
                 answer = Answer::Refused(why);
             }
             Verdict::Fine => {
                 match event {
-                    Event::Fresh { limit } => {
-                        t = Table::empty(limit);
+                    Event::Fresh { terms } => {
+                        t = Table::empty(terms);
                     }
                     Event::Join {
                         queue,
                         weight,
                         length,
                     } => {
-                        t = t.joined(queue, weight, length, seen.going);
+                        t = t.joined(queue, weight, length, seen.nearest);
                     }
                     Event::Leave { queue } => {
-                        t = t.left(queue, seen.going);
+                        t = t.left(queue, seen.nearest);
                     }
                     Event::Reweight {
                         queue,
                         weight,
                         length,
                     } => {
-                        t = t.reweighted(queue, weight, length, seen.going);
+                        t = t.reweighted(queue, weight, length, seen.nearest);
                     }
                     Event::Length { queue, length } => {
                         t = t.length_set(queue, length);
                     }
                     Event::Grant => {
                         let queue = seen.queue;
-                        let slice = lesser(t.limit, seen.left);
-                        t.out = true;
-                        t.holder = queue;
-                        t.ticks = slice;
+                        let slice = head.slice_for(row);
+                        t.head.out = true;
+                        t.head.holder = queue;
+                        t.head.ticks = slice;
                         answer = Answer::Granted { queue, slice };
                     }
                     Event::Return {
@@ -296,14 +228,13 @@ impl Table {
                         early,
                     } => {
                         // The weight stays, and so does W; A follows the row.
-                        let going = seen.going;
                         let next = charged(row, used, early);
                         t.rows[at] = next;
-                        t.sum = exchanged(sum, moment(row), moment(next));
-                        t.out = false;
-                        t.holder = 0;
-                        t.ticks = 0;
-                        if going * total <= t.sum {
+                        t.head.sum = exchanged(sum, moment(row), moment(next));
+                        t.head.out = false;
+                        t.head.holder = 0;
+                        t.head.ticks = 0;
+                        if reached(seen.nearest, total, t.head.sum) {
                             t = t.released();
                         }
                     }
@@ -313,22 +244,13 @@ impl Table {
         Reply { answer, table: t }
     }
 
-    // A leave of a queue that there is not is refused in any case: by 1 where the table is unsound, and else by 2.
-    fn is_sound(self) -> bool
-        ensures { λ r. ⌜ r ≡ sound self ⌝ }
-    {
-        let reply = self.leave(Table::QUEUES);
-        let answer = reply.answer;
-        answer.number() != 1
-    }
-
     fn reported(self) -> Reply
-        requires { ⌜ self .total ≤ 1024 ⌝ }
+        requires { ⌜ self .head .total ≤ maxTotal ⌝ }
         ensures { λ r. ⌜ r ≡ reportedReply self ⌝ }
     {
         Reply {
             answer: Answer::Reported {
-                denominator: self.total * rows::UNIT,
+                denominator: self.head.total * rows::UNIT,
             },
             table: self,
         }
@@ -351,42 +273,4 @@ impl Table {
             table: self,
         }
     }
-}
-
-impl Answer {
-    // 0 where nothing was refused, or else the refusal's number.
-    fn number(self) -> u64
-        ensures { λ r. ⌜ r ≡ number self ⌝ }
-    {
-        match self {
-            Answer::Accepted => 0,
-            Answer::Granted { .. } => 0,
-            Answer::Reported { .. } => 0,
-            Answer::Refused(why) => why.number(),
-        }
-    }
-}
-
-impl Event {
-    // The queue that the event names; 0 if it names none.
-    fn named(self) -> u64
-        ensures { λ r. ⌜ r ≡ asks.named self ⌝ }
-    {
-        match self {
-            Event::Fresh { .. } => 0,
-            Event::Join { queue, .. } => queue,
-            Event::Leave { queue } => queue,
-            Event::Reweight { queue, .. } => queue,
-            Event::Length { queue, .. } => queue,
-            Event::Grant => 0,
-            Event::Return { queue, .. } => queue,
-        }
-    }
-}
-
-// Outside a range whose ends belong to it.
-fn outside(n: u64, low: u64, high: u64) -> bool
-    ensures { λ r. ⌜ r ≡ checks.outside low high n ⌝ }
-{
-    n < low || high < n
 }

@@ -8,7 +8,7 @@ use native.Mathlib.Omega.{arith}
 use lib.ListN.{length, drop}
 use borrow.Author.Needs.{needs}
 use denote.Ref.{now}
-use Rattle.lines.specs.declared.Line.the-variants.{Known, Broken}
+use Rattle.head.specs.declared.Line.the-variants.{Known, Broken}
 use Rattle.lines.specs.Cut.{newline, before}
 use Rattle.lines.specs.Grammar.{readLine}
 use Rattle.lines.specs.Pieces.{bytesIn}
@@ -106,7 +106,7 @@ module _ (c : tie.After-plain Inv-loop μ-loop) where
   is-broken = sym (is-read read-broken) ∙ told-broken .enum-told .given .1
 
 -- It is an event, which is applied, and its answer is made.
-module _ (c : tie.After-show Inv-loop μ-loop) where
+module _ (c : tie.After-shown Inv-loop μ-loop) where
   abbrev applied : tie.After-apply Inv-loop μ-loop
   applied = c .before .before .before
 
@@ -205,8 +205,8 @@ loop-again c =
 apply-requires : tie.Need-apply-requires Inv-loop μ-loop
 apply-requires c κs = tt
 
-show-requires : tie.Need-show-requires Inv-loop μ-loop
-show-requires c κs = tt
+shown-requires : tie.Need-shown-requires Inv-loop μ-loop
+shown-requires c κs = tt
 
 write-answer-requires-2 : tie.Need-write-answer-requires-2 Inv-loop μ-loop
 write-answer-requires-2 c κs = at-line (known-line c) .has-room
@@ -224,7 +224,7 @@ loop-again-2 : tie.Need-loop-again-2 Inv-loop μ-loop
 loop-again-2 c =
     let w = wrote-known c in
     let a = w .before in
-    working-known (at-line (was-known c)) (is-known a) (applied a .apply .ensures) (a .show .ensures) (w .write-answer2 .ensures)
+    working-known (at-line (was-known c)) (is-known a) (applied a .apply .ensures) (a .shown .ensures) (w .write-answer2 .ensures)
 
 same-length-4 : tie.Need-same-length-4 Inv-loop μ-loop
 same-length-4 c = working (c .before) .same
@@ -260,7 +260,7 @@ work-spec =
     loop-less
     loop-again
     apply-requires
-    show-requires
+    shown-requires
     write-answer-requires-2
     add-line-2
     add-i-2

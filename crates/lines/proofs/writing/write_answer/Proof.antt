@@ -5,7 +5,7 @@ use Prim.Native.Nat.{ℕ, _+_, _≤_}
 use native.Mathlib.Omega.{arith}
 use lib.ListN.{length}
 use denote.Ref.{now}
-use Rattle.lines.specs.declared.writing.Shown.{Shown}
+use Rattle.head.specs.declared.Shown.{Shown}
 use Rattle.lines.specs.Places.{Wrote}
 use Rattle.lines.proofs.Digits.{wrote-both, room-left, ended-most, front, withQueue, withSlice, withDashes, front-most, queue-most, slice-most, dashes-most, shown-granted, shown-other}
 use borrow.Author.Needs.{needs}

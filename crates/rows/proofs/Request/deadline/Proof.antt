@@ -5,8 +5,6 @@ use Rattle.rows.specs.Row.{deadlineOf}
 use Rattle.rows.proofs.Steps.{travel-most}
 use Rattle.rows.proofs.Request.deadline.Statement.{statement}
 use Rattle.rows.proofs.Request.deadline.Tie as tie
-use Rattle.rows.proofs.Request.deadline.Reads as reads
-use Rattle.rows.proofs.Request.deadline.Lts as lts
 
 step-of-requires : tie.Need-step-of-requires
 step-of-requires c κs = search needs

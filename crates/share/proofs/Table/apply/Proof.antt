@@ -1,55 +1,72 @@
--- `Table::apply`: the walk's invariant is `Walking`, and the measure the rows left; at its end the survey tells what it may. The verdict is that of the
--- definition's checks: refused, the table is as it came, and else the event is done.
-use mathlib.Core.Path.{_≡_, refl, ap, sym, subst⁻¹, _∙_}
-use mathlib.Core.Bool.{Bool, false}
+-- `Table::apply`, stage by stage. The walk: its invariant is `Walking`, and the measure the rows left. The survey: at the walk's end it tells what it may. The
+-- verdict: it is that of the definition's checks. Refused, the table is as it came; else the event is done, a grant and a return in place.
+use mathlib.Core.Path.{_≡_, refl, ap, sym, subst, subst⁻¹, _∙_}
+use mathlib.Core.Bool.{Bool, true, false}
 use mathlib.Core.Logic.{_⊎_, ⊎-elim}
 use mathlib.Core.Option.{none}
-use Prim.Native.Nat.{ℕ, suc, _-_}
+use Prim.Native.Nat.{ℕ, suc, _+_, _-_, _*_, _<_}
 use native.Mathlib.Numerals.{add-one}
-use native.Mathlib.Nat.{mul-le-mul}
 use native.Mathlib.Omega.{arith}
 use borrow.Author.Needs.{needs}
 use lib.ListN.{length, length-map, set}
 use Rattle.laws.proofs.Tests.{clash}
-use Rattle.share.specs.declared.Event.{Event}
-use Rattle.share.specs.Asks.{named, Ahead, Settling, Returns}
-use Rattle.share.specs.Calls.{accepted}
-use Rattle.share.specs.Events as events
-use Rattle.share.specs.Events.{granted, returned}
-use Rattle.share.specs.Refusals.{firstOf}
-use Rattle.share.specs.Release.{released, done as frees-done}
-use Rattle.share.specs.Runs.{step, checksOf, doneBy}
-use Rattle.share.specs.Sound.{Sound}
-use Rattle.share.specs.Survey.{Place, Ended}
+use Rattle.rows.specs.declared.Row.{Row}
+use Rattle.rows.specs.Fits.{Exchanging}
+use Rattle.rows.specs.Looks.{Place}
+use Rattle.rows.specs.Numbers.{queues}
+use Rattle.rows.specs.Orderly.{OrderlyRow}
+use Rattle.rows.specs.Row.{momentIn}
+use Rattle.rows.specs.Requests as requests
+use Rattle.rows.proofs.Virtual.{reached-no}
+use Rattle.head.specs.declared.Answer.the-variants.{Granted}
+use Rattle.head.specs.declared.Event.{Event}
+use Rattle.head.specs.declared.Event.the-variants.{Grant}
+use Rattle.head.specs.Head.{concerns, sliced}
+use Rattle.head.specs.Refusals.{firstOf, verdictOf, verdictFor}
+use Rattle.head.specs.Slice.{sliceFor}
 use Rattle.share.specs.declared.Table.{Table}
+use Rattle.share.specs.Asks.{Ahead, Releasing, Settling, Grants, Returns}
+use Rattle.share.specs.Calls.{accepted, checksOf, doneBy, step}
+use Rattle.share.specs.Events.{chosen, sliceGiven, granted, returned}
+use Rattle.share.specs.Release.{released, done as frees-done}
+use Rattle.share.specs.Sound.{Sound}
 use Rattle.share.specs.Table.{row, placed, withSlice}
-use Rattle.share.specs.Verdict.{verdictOf}
+use Rattle.share.specs.Walks.{Walked, Surveyed}
 use Rattle.share.proofs.Accepted.{join-accepted, leave-accepted, reweight-accepted, length-accepted, grant-accepted, return-accepted}
+use Rattle.share.proofs.Charges.{return-charges, return-places, return-asks, in-place, slice-ahead}
+use Rattle.share.proofs.Mean.{chosen-inside}
 use Rattle.share.proofs.Release.{frees-released}
-use Rattle.share.proofs.Returning.{return-charges, return-places, return-asks, in-place, slice-ahead}
 use Rattle.share.proofs.Settling.{placed-settling, settling-calm}
-use Rattle.share.proofs.Shares.{position-small, exchange-moments}
-use Rattle.share.proofs.Sound.{says-sound}
-use Rattle.share.proofs.Surveying.{total-most, Walking, walking-starts, walking-light, walking-room, walking-next, walk-ends}
-use Rattle.share.proofs.Verdicts.{none-applies-to, verdict-refused, verdict-fine, told-ahead, step-parts}
+use Rattle.share.proofs.Sound.{sound-says, says-sound}
+use Rattle.share.proofs.Stepping.{none-applies-to, verdict-refused, verdict-fine, told-ahead, same-checks}
+use Rattle.share.proofs.Surveys.{may-survey, survey-tells}
+use Rattle.share.proofs.Totals.{total-most, sums-true, exchange-moments}
+use Rattle.share.proofs.Walk.{Walking, walking-starts, walking-light, walking-room, walking-next, walk-ends}
 use Rattle.share.proofs.Table.apply.Statement.{statement}
 use Rattle.share.proofs.Table.apply.Tie as tie
 
+-- The walk.
 abbrev Inv-loop : tie.InvT-loop
-Inv-loop event t total sum holder table-of-steps walked₀ i₀ walked i = Walking t i walked
+Inv-loop event head t total sum terms walked₀ i₀ walked i = Walking t i walked
 
 abbrev μ-loop : tie.MeasureT-loop
-μ-loop event t total sum holder table-of-steps walked₀ i₀ walked i = 64 - i
+μ-loop event head t total sum terms walked₀ i₀ walked i = 64 - i
+
+abbrev started : tie.At-loop Inv-loop μ-loop → tie.Start Inv-loop μ-loop
+started head = head .before .before .before .before
+
+abbrev table-of : tie.At-loop Inv-loop μ-loop → Table
+table-of head = started head .args .self
 
 -- an array of 64 rows
-sixty-four : (c : tie.Start Inv-loop μ-loop) → length (c .args .self .rows) ≡ 64
-sixty-four c = simp length-map at (c .good .0 .1 .1 .0 .1 .0 .1)
+sixty-four : (start : tie.Start Inv-loop μ-loop) → length (start .args .self .rows) ≡ 64
+sixty-four start = simp length-map at (start .good .0 .1 .1 .0 .1 .0 .1)
 
 first-row-requires : tie.Need-first-row-requires Inv-loop μ-loop
 first-row-requires c κs = search needs
 
 loop-holds : tie.Need-loop-holds Inv-loop μ-loop
-loop-holds c = rw (c .first-row .ensures) (walking-starts (c .before .args .self))
+loop-holds c = rw (c .first-row .ensures) (walking-starts (c .before .before .before .args .self))
 
 mul-row : tie.Need-mul-row Inv-loop μ-loop
 mul-row c = search needs
@@ -57,24 +74,20 @@ mul-row c = search needs
 element-copy-out-row : tie.Need-element-copy-out-row Inv-loop μ-loop
 element-copy-out-row c = omega arith
 
-look-at-requires : tie.Need-look-at-requires Inv-loop μ-loop
-look-at-requires c κs =
-    let head = c .before .before .before in
-    (refl, walking-light (head .before .before .args .self) (head .loop .i) (head .loop .walked) (head .loop .inv) (c .before .before .loop-test .taken))
-
-seen-next-requires : tie.Need-seen-next-requires Inv-loop μ-loop
-seen-next-requires c κs =
-    let head = c .before .before .before .before in
-    walking-room (head .before .before .args .self) (head .loop .i) (head .loop .walked) (head .loop .inv) (c .before .before .before .loop-test .taken) _ (c .look-at .result) (c .look-at .ensures)
+seen-after-requires : tie.Need-seen-after-requires Inv-loop μ-loop
+seen-after-requires c κs =
+    let head = c .before .before in
+    let loop = head .loop in
+    (walking-room (table-of head) (loop .i) (loop .walked) (loop .inv) (c .before .loop-test .taken), walking-light (table-of head) (loop .i) (loop .walked) (loop .inv) (c .before .loop-test .taken))
 
 -- one row more walked
-one-more : (c : tie.After-seen-next Inv-loop μ-loop) → let head = c .before .before .before .before .before in Walking (head .before .before .args .self) (suc (head .loop .i)) (c .seen-next .result)
+one-more : (c : tie.After-seen-after Inv-loop μ-loop) → let head = c .before .before .before in Walking (table-of head) (suc (head .loop .i)) (c .seen-after .result)
 unfolding row
 one-more c =
-    let head = c .before .before .before .before .before in
-    rw (c .seen-next .ensures)
-    (walking-next (head .before .before .args .self) (head .loop .i) (head .loop .walked) (head .loop .inv) (c .before .before .before .before .loop-test .taken) (c .before .look-at .result)
-    (sixty-four (head .before .before)) (c .before .look-at .ensures))
+    let turn = c .before .before in
+    let head = turn .before in
+    rw (c .seen-after .ensures)
+    (walking-next (table-of head) (head .loop .i) (head .loop .walked) (head .loop .inv) (turn .loop-test .taken) (sixty-four (started head)))
 
 add-i : tie.Need-add-i Inv-loop μ-loop
 add-i c = omega arith
@@ -86,22 +99,18 @@ loop-again : tie.Need-loop-again Inv-loop μ-loop
 loop-again c = rw add-one (one-more (c .before))
 
 -- the walk is over: past the last row, or at a fault
-ended : (c : tie.Left-loop Inv-loop μ-loop) (at : ℕ) → let t = c .before .before .before .args .self in Place (t .holder) at → Ended t (c .loop-test .walked) (row t at)
-ended c at place =
+walk-over : (c : tie.Left-loop Inv-loop μ-loop) → Walked (table-of (c .before)) (c .loop-test .walked)
+walk-over c =
     let head = c .before in
-    let t = head .before .before .args .self in
-    let rows = sixty-four (head .before .before) in
-    ⊎-elim (λ w. rw (w .1) (walk-ends t (head .loop .i) (head .loop .walked) (head .loop .inv) (_⊎_.inl (w .0 .left)) rows at place))
-    (λ w. rw (w .6)
-    (walk-ends t (suc (head .loop .i)) (w .4 .result)
-    (one-more (record {
-      before =
-          record { before = record { before = record { before = record { before = head; loop-test = w .0 }; row = w .1 }; steps = w .2 }; look-at = w .3 };
-      seen-next = w .4;
-    }))
-    (_⊎_.inr (w .5 .taken)) rows at place))
+    let loop = head .loop in
+    ⊎-elim (λ w. rw (w .1) (walk-ends (table-of head) (loop .i) (loop .walked) (loop .inv) (_⊎_.inl (w .0 .left))))
+    (λ w. rw (w .4)
+    (walk-ends (table-of head) (suc (loop .i)) (w .2 .result)
+    (one-more (record { before = record { before = record { before = head; loop-test = w .0 }; row = w .1 }; seen-after = w .2 }))
+    (_⊎_.inr (w .3 .taken))))
     (c .loop-test .came)
 
+-- The survey.
 place-requires : tie.Need-place-requires Inv-loop μ-loop
 place-requires c κs = search needs
 
@@ -114,10 +123,25 @@ element-copy-out-held c = c .place .ensures .inside
 survey-requires : tie.Need-survey-requires Inv-loop μ-loop
 unfolding row
 survey-requires c κs =
-    ended (c .before .before) (c .before .place .result) (c .before .place .ensures)
+    let placed = c .before in
+    let over = placed .before in
+    may-survey (table-of (over .before)) (over .loop-test .walked) (sixty-four (started (over .before))) (walk-over over) (placed .place .result) (placed .place .ensures .same)
 
-named-requires : tie.Need-named-requires Inv-loop μ-loop
-named-requires c κs = search needs
+-- the survey of the table, which tells what is so
+module _ (c : tie.After-survey Inv-loop μ-loop) where
+  abbrev called : tie.Start Inv-loop μ-loop
+  called = started (c .before .before .before .before)
+
+  surveyed : Surveyed (called .args .self) (c .survey .result)
+  unfolding row
+  surveyed =
+      let placed = c .before .before in
+      let over = placed .before in
+      subst⁻¹ (Surveyed (called .args .self)) (c .survey .ensures)
+      (survey-tells (called .args .self) (over .loop-test .walked) (sixty-four called) (walk-over over) (placed .place .result) (placed .place .ensures .same))
+
+concerns-requires : tie.Need-concerns-requires Inv-loop μ-loop
+concerns-requires c κs = search needs
 
 place-requires-2 : tie.Need-place-requires-2 Inv-loop μ-loop
 place-requires-2 c κs = search needs
@@ -128,63 +152,72 @@ mul-row-2 c = omega (arith, c .place2 .ensures .inside)
 element-copy-out-row-2 : tie.Need-element-copy-out-row-2 Inv-loop μ-loop
 element-copy-out-row-2 c = c .place2 .ensures .inside
 
-reasons-requires : tie.Need-reasons-requires Inv-loop μ-loop
+-- The verdict, by the row that was read.
+verdict-requires : tie.Need-verdict-requires Inv-loop μ-loop
 unfolding row
-reasons-requires c κs =
-    let placed = c .before in
-    let survey = placed .before .before in
-    let t = survey .before .before .before .before .before .before .args .self in
-    record {
-      surveyed = survey .survey .ensures;
-      its-row = λ h. ap (λ (i : ℕ). row t i) (sym (placed .before .named .ensures) ∙ sym (placed .place2 .ensures .same (rw (placed .before .named .ensures) h)));
-      near = λ is. position-small (row t (placed .place2 .result)) (is .orderly-table .each (placed .place2 .result));
-    }
+verdict-requires c κs =
+    let survey = c .before .before .before in
+    let t = called survey .args .self in
+    let is : survey .survey .result .sound ≡ true → Sound t = λ e. sound-says t (sym (surveyed survey .sound-told) ∙ e) in
+    record { orderly = λ e. is e .orderly-table .each (c .before .place2 .result); total-high = λ e. total-most t (is e .orderly-table) }
 
-first-requires : tie.Need-first-requires Inv-loop μ-loop
-first-requires c κs = search needs
+module _ (c : tie.After-verdict Inv-loop μ-loop) where
+  abbrev read : tie.After-place2 Inv-loop μ-loop
+  read = c .before .before
 
--- the call's table and event, at the verdict
-abbrev start-of : tie.After-first Inv-loop μ-loop → tie.Start Inv-loop μ-loop
-start-of c = c .before .before .before .before .before .before .before .before .before .before .before
+  abbrev survey-told : tie.After-survey Inv-loop μ-loop
+  survey-told = read .before .before
 
-tested : (c : tie.After-first Inv-loop μ-loop) → let a = start-of c .args in c .first .result ≡ verdictOf (firstOf (checksOf (a .self) (a .event)))
-tested c = c .first .ensures ∙ ap verdictOf (c .before .reasons .ensures)
+  abbrev table : Table
+  table = called survey-told .args .self
 
+  abbrev asked : Event
+  asked = called survey-told .args .event
+
+  -- the place of the row that was read
+  abbrev at : ℕ
+  at = read .place2 .result
+
+  its-place : Place (concerns (survey-told .survey .result .queue) asked) at
+  its-place = subst (λ (n : ℕ). Place n at) (read .before .concerns .ensures) (read .place2 .ensures)
+
+  tested : c .verdict .result ≡ verdictOf (firstOf (checksOf table asked))
+  unfolding verdictFor row
+  tested = c .verdict .ensures ∙ ap verdictOf (same-checks table (survey-told .survey .result) (surveyed survey-told) at asked its-place)
+
+  -- no going row stands before the position that the survey tells
+  ahead : Sound table → Ahead table (survey-told .survey .result .nearest)
+  ahead is = told-ahead table (survey-told .survey .result) (surveyed survey-told) is
+
+-- Refused.
 enum-known-why : tie.Need-enum-known-why Inv-loop μ-loop
 enum-known-why c = search needs
 
 returns : tie.Need-returns Inv-loop μ-loop
+unfolding step
 returns c =
-    let first = c .before .before .before in
-    let a = start-of first .args in
-    verdict-refused (checksOf (a .self) (a .event)) (first .first .result) (tested first) _ (c .before .why .given .1) (a .self) (doneBy (a .self) (a .event))
-    ∙ sym (step-parts (a .self) (a .event))
+    let judged = c .before .before .before in
+    verdict-refused (checksOf (table judged) (asked judged)) (judged .verdict .result) (tested judged) _ (c .before .why .given .1) (table judged) (doneBy (table judged) (asked judged))
 
+-- Nothing is refused, whatever the event is.
 enum-told : tie.Need-enum-told Inv-loop μ-loop
 enum-told c = search needs
 
--- nothing is refused, whatever the event is
-module _ (c : tie.After-enum-told Inv-loop μ-loop) (e : Event) (is : start-of (c .before .before) .args .event ≡ e) where
-  nothing-applies : firstOf (checksOf (start-of (c .before .before) .args .self) e) ≡ none
-  nothing-applies =
-      let first = c .before .before in
-      let a = start-of first .args in
-      ap (λ (x : Event). firstOf (checksOf (a .self) x)) (sym is)
-      ∙ none-applies-to (checksOf (a .self) (a .event)) (first .first .result) (tested first) (c .enum-told .given .1)
+module _ (c : tie.After-enum-told Inv-loop μ-loop) where
+  abbrev judged : tie.After-verdict Inv-loop μ-loop
+  judged = c .before .before
 
-  done : doneBy (start-of (c .before .before) .args .self) e ≡ step (start-of (c .before .before) .args .self) (start-of (c .before .before) .args .event)
-  done =
-      let first = c .before .before in
-      let a = start-of first .args in
-      ap (doneBy (a .self)) (sym is)
-      ∙ verdict-fine (checksOf (a .self) (a .event)) (first .first .result) (tested first) (c .enum-told .given .1) (a .self) (doneBy (a .self) (a .event))
-      ∙ sym (step-parts (a .self) (a .event))
+  module _ (e : Event) (is : asked judged ≡ e) where
+    nothing-applies : firstOf (checksOf (table judged) e) ≡ none
+    nothing-applies =
+        ap (λ (x : Event). firstOf (checksOf (table judged) x)) (sym is)
+        ∙ none-applies-to (checksOf (table judged) (asked judged)) (judged .verdict .result) (tested judged) (c .enum-told .given .1)
 
--- no going row stands before the position that the survey tells
-ahead : (c : tie.After-enum-told Inv-loop μ-loop) → let first = c .before .before in let survey = first .before .before .before .before .before .survey in Sound (start-of first .args .self) → Ahead (start-of first .args .self) (survey .result .going)
-ahead c is =
-    let first = c .before .before in
-    told-ahead (start-of first .args .self) (first .before .before .before .before .before .survey .result) (first .before .before .before .before .before .survey .ensures) is
+    done : doneBy (table judged) e ≡ step (table judged) (asked judged)
+    unfolding step
+    done =
+        ap (doneBy (table judged)) (sym is)
+        ∙ verdict-fine (checksOf (table judged) (asked judged)) (judged .verdict .result) (tested judged) (c .enum-told .given .1) (table judged) (doneBy (table judged) (asked judged))
 
 enum-known-event : tie.Need-enum-known-event Inv-loop μ-loop
 enum-known-event c = search needs
@@ -201,8 +234,8 @@ enum-known-event-2 c = search needs
 joined-requires : tie.Need-joined-requires Inv-loop μ-loop
 joined-requires c κs =
     let fine = c .before .before .before in
-    let j = join-accepted (start-of (fine .before .before) .args .self) _ _ _ (nothing-applies fine _ (c .before .event2 .given .1)) in
-    (j, ahead fine (j .was-sound))
+    let j = join-accepted (table (judged fine)) _ _ _ (nothing-applies fine _ (c .before .event2 .given .1)) in
+    (j, ahead (judged fine) (j .was-sound))
 
 returns-3 : tie.Need-returns-3 Inv-loop μ-loop
 returns-3 c = let event = c .before .before in ap accepted (c .joined .ensures) ∙ done (event .before .before) _ (event .event2 .given .1)
@@ -213,8 +246,8 @@ enum-known-event-3 c = search needs
 left-requires : tie.Need-left-requires Inv-loop μ-loop
 left-requires c κs =
     let fine = c .before .before .before in
-    let l = leave-accepted (start-of (fine .before .before) .args .self) _ (nothing-applies fine _ (c .before .event3 .given .1)) in
-    (l, ahead fine (l .was-sound))
+    let l = leave-accepted (table (judged fine)) _ (nothing-applies fine _ (c .before .event3 .given .1)) in
+    (l, ahead (judged fine) (l .was-sound))
 
 returns-4 : tie.Need-returns-4 Inv-loop μ-loop
 returns-4 c = let event = c .before .before in ap accepted (c .left .ensures) ∙ done (event .before .before) _ (event .event3 .given .1)
@@ -225,8 +258,8 @@ enum-known-event-4 c = search needs
 reweighted-requires : tie.Need-reweighted-requires Inv-loop μ-loop
 reweighted-requires c κs =
     let fine = c .before .before .before in
-    let r = reweight-accepted (start-of (fine .before .before) .args .self) _ _ _ (nothing-applies fine _ (c .before .event4 .given .1)) in
-    (r, ahead fine (r .leaves .was-sound))
+    let r = reweight-accepted (table (judged fine)) _ _ _ (nothing-applies fine _ (c .before .event4 .given .1)) in
+    (r, ahead (judged fine) (r .leaves .was-sound))
 
 returns-5 : tie.Need-returns-5 Inv-loop μ-loop
 returns-5 c = let event = c .before .before in ap accepted (c .reweighted .ensures) ∙ done (event .before .before) _ (event .event4 .given .1)
@@ -237,38 +270,69 @@ enum-known-event-5 c = search needs
 length-set-requires : tie.Need-length-set-requires Inv-loop μ-loop
 length-set-requires c κs =
     let fine = c .before .before .before in
-    length-accepted (start-of (fine .before .before) .args .self) _ _ (nothing-applies fine _ (c .before .event5 .given .1))
+    length-accepted (table (judged fine)) _ _ (nothing-applies fine _ (c .before .event5 .given .1))
 
 returns-6 : tie.Need-returns-6 Inv-loop μ-loop
 returns-6 c = let event = c .before .before in ap accepted (c .length-set .ensures) ∙ done (event .before .before) _ (event .event5 .given .1)
 
+-- A grant, in place: the row that was read is that of the chosen queue.
 enum-told-2 : tie.Need-enum-told-2 Inv-loop μ-loop
 enum-told-2 c = search needs
 
-lesser-requires : tie.Need-lesser-requires Inv-loop μ-loop
-lesser-requires c κs = search needs
+slice-for-requires : tie.Need-slice-for-requires Inv-loop μ-loop
+unfolding row
+slice-for-requires c κs =
+    let fine = c .before .before in
+    let g = grant-accepted (table (judged fine)) (nothing-applies fine _ (c .enum-told2 .given .1)) in
+    g .was-sound .orderly-table .each (at (judged fine))
+
+-- the table changed in place
+granted-as : (t : Table) (queue slice : ℕ) → queue ≡ chosen t → slice ≡ sliceGiven t → record { answer = Granted queue slice; table = record { rows = t .rows; head = record { total = t .head .total; sum = t .head .sum; terms = t .head .terms; out = true; holder = queue; ticks = slice } } } ≡ doneBy t Grant
+unfolding granted withSlice sliced
+granted-as t queue slice q s = rw (q, s) refl
+
+module _ (c : tie.After-slice-for Inv-loop μ-loop) where
+  abbrev nothing-against-grant : tie.After-enum-told Inv-loop μ-loop
+  nothing-against-grant = c .before .before .before
+
+  abbrev granting : Table
+  granting = table (judged nothing-against-grant)
+
+  accepted-grant : Grants granting
+  accepted-grant = grant-accepted granting (nothing-applies nothing-against-grant _ (c .before .enum-told2 .given .1))
+
+  queue-is : survey-told (judged nothing-against-grant) .survey .result .queue ≡ chosen granting
+  queue-is = surveyed (survey-told (judged nothing-against-grant)) .told (says-sound granting (accepted-grant .was-sound)) .queue-told (accepted-grant .present)
+
+  row-is : at (judged nothing-against-grant) ≡ chosen granting
+  row-is =
+      let queue = survey-told (judged nothing-against-grant) .survey .result .queue in
+      let place = subst (λ (e : Event). Place (concerns queue e) (at (judged nothing-against-grant))) (c .before .enum-told2 .given .1) (its-place (judged nothing-against-grant)) in
+      place .same (subst⁻¹ (λ (n : ℕ). n < queues) queue-is (chosen-inside granting (accepted-grant .was-sound) (accepted-grant .present))) ∙ queue-is
+
+  slice-is : c .slice-for .result ≡ sliceGiven granting
+  unfolding row sliceGiven
+  slice-is = c .slice-for .ensures ∙ ap (λ (i : ℕ). sliceFor (granting .head) (row granting i)) row-is
 
 returns-7 : tie.Need-returns-7 Inv-loop μ-loop
-unfolding granted withSlice
 returns-7 c =
-    let event = c .before in
-    let fine = event .before .before in
-    let first = fine .before .before in
-    let t = start-of first .args .self in
-    let g = grant-accepted t (nothing-applies fine _ (event .enum-told2 .given .1)) in
-    let told = first .before .before .before .before .before .survey .ensures .told (says-sound t (g .was-sound)) in
-    rw (c .lesser .ensures, told .queue-told (g .present), told .slice-told (g .present)) (done fine _ (event .enum-told2 .given .1))
+    let sliced-up = c .before .before .before in
+    granted-as (granting sliced-up) _ _ (queue-is sliced-up) (slice-is sliced-up) ∙ done (nothing-against-grant sliced-up) _ (sliced-up .before .enum-told2 .given .1)
 
+-- A return, in place.
 enum-known-event-6 : tie.Need-enum-known-event-6 Inv-loop μ-loop
 enum-known-event-6 c = search needs
 
--- the slice comes back: the row that was read is the holder's, charged it may take its own place, and then no going row stands before the position told
+-- the row that was read is the holder's; charged it may take its own place, and then no going row stands before the position told
 module _ (c : tie.After-event6 Inv-loop μ-loop) where
-  abbrev table : Table
-  table = start-of (c .before .before .before .before) .args .self
+  abbrev nothing-against : tie.After-enum-told Inv-loop μ-loop
+  nothing-against = c .before .before
 
-  abbrev at : ℕ
-  at = c .before .before .before .before .before .before .before .place2 .result
+  abbrev holding : Table
+  holding = table (judged nothing-against)
+
+  abbrev place-of : ℕ
+  place-of = at (judged nothing-against)
 
   abbrev used : ℕ
   used = c .event6 .given .0 .1 .0
@@ -276,88 +340,126 @@ module _ (c : tie.After-event6 Inv-loop μ-loop) where
   abbrev early : Bool
   early = c .event6 .given .0 .1 .1 .0
 
-  accepted-return : Returns table (c .event6 .given .0 .0) used
-  accepted-return = return-accepted table _ _ (nothing-applies (c .before .before) _ (c .event6 .given .1))
+  accepted-return : Returns holding (c .event6 .given .0 .0) used
+  accepted-return = return-accepted holding _ _ early (nothing-applies nothing-against _ (c .event6 .given .1))
 
-  at-is : at ≡ c .event6 .given .0 .0
+  at-is : place-of ≡ c .event6 .given .0 .0
   at-is =
-      let place = c .before .before .before .before .before .before .before in
-      let named-is = place .before .named .ensures ∙ ap named (c .event6 .given .1) in
-      place .place2 .ensures .same (rw named-is (accepted-return .inside)) ∙ named-is
+      let place = subst (λ (e : Event). Place (concerns (survey-told (judged nothing-against) .survey .result .queue) e) place-of) (c .event6 .given .1) (its-place (judged nothing-against)) in
+      place .same (accepted-return .inside)
 
-  returning : Returns table at used
-  returning = subst⁻¹ (λ (i : ℕ). Returns table i used) at-is accepted-return
+  returning : Returns holding place-of used
+  returning = subst⁻¹ (λ (i : ℕ). Returns holding i used) at-is accepted-return
 
   abbrev came-in : Table
-  came-in = placed (withSlice table false 0 0) at (events.charged (row table at) used early)
+  came-in = placed (withSlice holding false 0 0) place-of (requests.charged (row holding place-of) used early)
 
-  settling : Settling came-in (c .before .before .before .before .before .before .before .before .before .survey .result .going)
-  unfolding withSlice
+  settling : Settling came-in (survey-told (judged nothing-against) .survey .result .nearest)
+  unfolding withSlice sliced
   settling =
-      placed-settling (withSlice table false 0 0) at (events.charged (row table at) used early) _ (return-places table at used returning early) refl
-      (slice-ahead table false 0 0 _ (ahead (c .before .before) (returning .was-sound)))
-      (λ g. absurd (clash g (return-asks table at used returning early)))
+      placed-settling (withSlice holding false 0 0) place-of (requests.charged (row holding place-of) used early) _ (return-places holding place-of used returning early) refl
+      (slice-ahead holding false 0 0 _ (ahead (judged nothing-against) (returning .was-sound)))
+      (λ g. absurd (clash g (return-asks holding place-of used returning early)))
 
-  return-done : accepted (released came-in) ≡ step table (start-of (c .before .before .before .before) .args .event)
+  return-done : accepted (released came-in) ≡ step holding (asked (judged nothing-against))
   unfolding returned
   return-done =
-      ap (λ (i : ℕ). accepted (released (placed (withSlice table false 0 0) i (events.charged (row table i) used early)))) at-is ∙ done (c .before .before) _ (c .event6 .given .1)
+      ap (λ (i : ℕ). accepted (released (placed (withSlice holding false 0 0) i (requests.charged (row holding i) used early)))) at-is
+      ∙ done nothing-against _ (c .event6 .given .1)
 
 charged-requires : tie.Need-charged-requires Inv-loop μ-loop
 unfolding row
-charged-requires c κs = return-charges (table (c .before)) (at (c .before)) (used (c .before)) (returning (c .before))
+charged-requires c κs = return-charges (holding (c .before)) (place-of (c .before)) (used (c .before)) (returning (c .before))
+
+-- where the charged row was made
+abbrev event-of : tie.After-charged Inv-loop μ-loop → tie.After-event6 Inv-loop μ-loop
+event-of c = c .before .before
 
 mul-next : tie.Need-mul-next Inv-loop μ-loop
-mul-next c = omega (arith, c .before .before .before .before .before .before .before .before .before .place2 .ensures .inside)
+mul-next c = omega (arith, read (judged (nothing-against (event-of c))) .place2 .ensures .inside)
 
 element-set-from-next : tie.Need-element-set-from-next Inv-loop μ-loop
-element-set-from-next c = c .before .before .before .before .before .before .before .before .before .place2 .ensures .inside
+element-set-from-next c = read (judged (nothing-against (event-of c))) .place2 .ensures .inside
 
 moment-requires : tie.Need-moment-requires Inv-loop μ-loop
 unfolding row
-moment-requires c κs = let e = c .before .before in returning e .was-sound .orderly-table .each (at e)
+moment-requires c κs = let e = event-of c in returning e .was-sound .orderly-table .each (place-of e)
 
 moment-requires-2 : tie.Need-moment-requires-2 Inv-loop μ-loop
 unfolding row
-moment-requires-2 c κs = let e = c .before .before .before in rw (c .before .charged .ensures) (return-places (table e) (at e) (used e) (returning e) (early e) .new)
+moment-requires-2 c κs =
+    let e = event-of (c .before) in
+    subst⁻¹ OrderlyRow (c .before .charged .ensures) (return-places (holding e) (place-of e) (used e) (returning e) (early e) .new)
+
+-- what A is exchanged for: the row's part in it for the charged row's
+module _ (c : tie.After-moment2 Inv-loop μ-loop) where
+  abbrev charged-at : tie.After-charged Inv-loop μ-loop
+  charged-at = c .before .before
+
+  part-out : c .before .moment .result ≡ momentIn (row (holding (event-of charged-at)) (place-of (event-of charged-at)))
+  unfolding row
+  part-out = c .before .moment .ensures
+
+  part-into : c .moment2 .result ≡ momentIn (requests.charged (row (holding (event-of charged-at)) (place-of (event-of charged-at))) (used (event-of charged-at)) (early (event-of charged-at)))
+  unfolding row
+  part-into = c .moment2 .ensures ∙ ap momentIn (charged-at .charged .ensures)
+
+as-exchanging : {sum a b out into : ℕ} → a ≡ out → b ≡ into → Exchanging sum out into → Exchanging sum a b
+as-exchanging p q h = rw (p, q) h
+
+as-sum : (sum : ℕ) {a b out into : ℕ} → a ≡ out → b ≡ into → sum + b - a ≡ sum + into - out
+as-sum sum p q = rw (p, q) refl
 
 exchanged-requires : tie.Need-exchanged-requires Inv-loop μ-loop
-unfolding row withSlice
+unfolding row withSlice sliced
 exchanged-requires c κs =
-    let e = c .before .before .before .before in
-    rw (c .before .moment .ensures, c .moment2 .ensures, c .before .before .charged .ensures)
-    (exchange-moments (withSlice (table e) false 0 0) (at e) (events.charged (row (table e) (at e)) (used e) (early e)) (return-places (table e) (at e) (used e) (returning e) (early e)))
+    let e = event-of (charged-at c) in
+    as-exchanging (part-out c) (part-into c)
+    (exchange-moments (withSlice (holding e) false 0 0) (place-of e) (requests.charged (row (holding e) (place-of e)) (used e) (early e)) (return-places (holding e) (place-of e) (used e) (returning e) (early e)))
 
 -- what stands in the table's place is that table
-changed : (c : tie.After-exchanged Inv-loop μ-loop) → let e = c .before .before .before .before .before in record { rows = set (table e .rows) (at e) (c .before .before .before .charged .result); total = table e .total; sum = c .exchanged .result; limit = table e .limit; out = false; holder = 0; ticks = 0 } ≡ came-in e
-unfolding row
-changed c =
-    let e = c .before .before .before .before .before in
-    rw (c .before .before .before .charged .ensures)
-    (in-place (table e) (at e) (used e) (returning e) (early e) (c .exchanged .result)
-    (rw (c .before .before .moment .ensures, c .before .moment2 .ensures, c .before .before .before .charged .ensures) at (c .exchanged .ensures)))
+module _ (c : tie.After-exchanged Inv-loop μ-loop) where
+  abbrev event-back : tie.After-event6 Inv-loop μ-loop
+  event-back = event-of (charged-at (c .before))
 
-mul-if2 : tie.Need-mul-if2 Inv-loop μ-loop
-mul-if2 c =
-    let e = c .before .before .before .before .before in
-    omega (arith, mul-le-mul (settling e .ahead .going-high) (total-most (table e) (returning e .was-sound .orderly-table)))
+  abbrev changed-table : Table
+  changed-table = record { rows = set (holding event-back .rows) (place-of event-back) (charged-at (c .before) .charged .result); head = record { total = holding event-back .head .total; sum = c .exchanged .result; terms = holding event-back .head .terms; out = false; holder = 0; ticks = 0 } }
+
+  changed : changed-table ≡ came-in event-back
+  unfolding row
+  changed =
+      let e = event-back in
+      ap (λ (r : Row). record { rows = set (holding e .rows) (place-of e) r; head = record { total = holding e .head .total; sum = c .exchanged .result; terms = holding e .head .terms; out = false; holder = 0; ticks = 0 } }) (charged-at (c .before) .charged .ensures)
+      ∙ in-place (holding e) (place-of e) (used e) (returning e) (early e) (c .exchanged .result)
+      (c .exchanged .ensures ∙ as-sum _ (part-out (c .before)) (part-into (c .before)))
+
+-- A and W are in their places
+abbrev summed-up : tie.After-t7 Inv-loop μ-loop → tie.After-exchanged Inv-loop μ-loop
+summed-up c = c .before .before .before .before
+
+reached-requires : tie.Need-reached-requires Inv-loop μ-loop
+reached-requires c κs =
+    let e = event-back (summed-up c) in
+    record { position-high = settling e .ahead .nearest-high; total-high = total-most (holding e) (returning e .was-sound .orderly-table) }
 
 released-requires : tie.Need-released-requires Inv-loop μ-loop
 released-requires c κs =
-    let e = c .before .before .before .before .before .before in
-    rw (changed (c .before)) (record { orderly = settling e .orderly; still = settling e .still })
+    let x = summed-up (c .before .before) in
+    subst⁻¹ Releasing (changed x) (record { orderly = settling (event-back x) .orderly; still = settling (event-back x) .still })
 
 returns-8 : tie.Need-returns-8 Inv-loop μ-loop
 returns-8 c =
-    let exchanged = c .before .before in
-    ap accepted (c .released .ensures ∙ ap released (changed exchanged)) ∙ return-done (exchanged .before .before .before .before .before)
+    let x = summed-up (c .before .before .before) in
+    ap accepted (c .released .ensures ∙ ap released (changed x)) ∙ return-done (event-back x)
 
 returns-9 : tie.Need-returns-9 Inv-loop μ-loop
 returns-9 c =
-    let e = c .before .before .before .before .before .before in
-    let same = ap (λ (u : Table). u .sum) (changed (c .before)) in
-    let total = ap (λ (u : Table). u .total) (changed (c .before)) in
-    ap accepted (changed (c .before) ∙ frees-released (frees-done (settling-calm (came-in e) _ (settling e) (rw (← same, ← total) (c .if2 .left))))) ∙ return-done e
+    let x = summed-up (c .before .before) in
+    let e = event-back x in
+    let nearest = survey-told (judged (nothing-against e)) .survey .result .nearest in
+    let above : changed-table x .head .sum < nearest * changed-table x .head .total = reached-no _ _ _ (sym (c .before .reached .ensures) ∙ c .if2 .left) in
+    let calm = settling-calm (came-in e) nearest (settling e) (subst (λ (u : Table). u .head .sum < nearest * u .head .total) (changed x) above) in
+    ap accepted (changed x ∙ frees-released (sums-true (settling e .orderly)) (frees-done calm)) ∙ return-done e
 
 pub apply-spec : {M : Type 1} → statement M
 apply-spec =
@@ -369,8 +471,7 @@ apply-spec =
     loop-holds
     mul-row
     element-copy-out-row
-    look-at-requires
-    seen-next-requires
+    seen-after-requires
     add-i
     loop-less
     loop-again
@@ -378,12 +479,11 @@ apply-spec =
     mul-held
     element-copy-out-held
     survey-requires
-    named-requires
+    concerns-requires
     place-requires-2
     mul-row-2
     element-copy-out-row-2
-    reasons-requires
-    first-requires
+    verdict-requires
     enum-known-why
     enum-told
     enum-known-event
@@ -397,7 +497,7 @@ apply-spec =
     enum-known-event-5
     length-set-requires
     enum-told-2
-    lesser-requires
+    slice-for-requires
     enum-known-event-6
     charged-requires
     mul-next
@@ -405,7 +505,7 @@ apply-spec =
     moment-requires
     moment-requires-2
     exchanged-requires
-    mul-if2
+    reached-requires
     released-requires
     returns
     returns-2

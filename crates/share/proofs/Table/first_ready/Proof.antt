@@ -5,11 +5,12 @@ use Prim.Native.Nat.{ℕ, _-_, _≤_, _<_}
 use native.Mathlib.Omega.{arith}
 use borrow.Author.Needs.{needs}
 use Rattle.laws.proofs.Tests.{clash, le-or-lt}
-use Rattle.share.specs.Sound.{Ready}
+use Rattle.share.specs.Sound.{Ready, ready}
 use Rattle.share.specs.Table.{row}
-use Rattle.share.proofs.Release.{ready-by, by-ready, ready-inside}
-use Rattle.share.proofs.Shares.{position-small}
-use Rattle.share.proofs.Surveying.{total-most}
+use Rattle.share.proofs.Release.{ready-inside}
+use Rattle.share.proofs.Sound.{ready-says, says-ready}
+use Rattle.rows.proofs.Shares.{position-small}
+use Rattle.share.proofs.Totals.{total-most}
 use Rattle.share.proofs.Table.first_ready.Statement.{statement}
 use Rattle.share.proofs.Table.first_ready.Tie as tie
 
@@ -33,14 +34,14 @@ unfolding row
 is-ready-requires c κs =
     let start = c .before .before .before in
     let t = start .args .t1 in
-    record { total-high = total-most t (start .pre .orderly); position-high = position-small (row t (c .before .before .loop .i)) (start .pre .orderly .each _) }
+    record { position-high = omega (arith, position-small (row t (c .before .before .loop .i)) (start .pre .orderly .each _)); total-high = total-most t (start .pre .orderly) }
 
 returns : tie.Need-returns Inv-loop μ-loop
-unfolding row
+unfolding row ready
 returns c =
     let t = c .before .before .before .before .before .args .t1 in
     let i = c .before .before .before .before .loop .i in
-    record { one = λ h. ready-by t i (sym (c .before .is-ready .ensures) ∙ c .if1 .taken); done = λ h. absurd (omega (arith, c .before .before .before .loop-test .taken)) }
+    record { one = λ h. ready-says t i (sym (c .before .is-ready .ensures) ∙ c .if1 .taken); done = λ h. absurd (omega (arith, c .before .before .before .loop-test .taken)) }
 
 add-i : tie.Need-add-i Inv-loop μ-loop
 add-i c = omega arith
@@ -49,14 +50,14 @@ loop-less : tie.Need-loop-less Inv-loop μ-loop
 loop-less c = omega arith
 
 loop-again : tie.Need-loop-again Inv-loop μ-loop
-unfolding row
+unfolding row ready
 loop-again c =
     let t = c .before .before .before .before .before .args .t1 in
     let head = c .before .before .before .before in (
       omega arith,
       λ j h r. ⊎-elim
           (λ l. let same : j ≡ head .loop .i = omega arith in
-          clash (by-ready t (head .loop .i) (subst (Ready t) same r)) (sym (c .before .is-ready .ensures) ∙ c .if1 .left))
+          clash (says-ready t (head .loop .i) (subst (Ready t) same r)) (sym (c .before .is-ready .ensures) ∙ c .if1 .left))
           (λ l. head .loop .inv .1 j l r)
           (le-or-lt (head .loop .i) j),
     )

@@ -1,7 +1,5 @@
 -- `Table::fresh` puts the event to the empty table with slice limit 1, which a refusal hands back.
 use borrow.Author.Needs.{needs}
-use Rattle.share.specs.Calls.{freshReply, renewReply}
-use Rattle.share.specs.Runs.{step}
 use Rattle.share.proofs.Table.fresh.Statement.{statement}
 use Rattle.share.proofs.Table.fresh.Tie as tie
 
@@ -12,7 +10,6 @@ apply-requires : tie.Need-apply-requires
 apply-requires c κs = search needs
 
 returns : tie.Need-returns
-unfolding step freshReply renewReply
 returns c = rw (c .before .empty .ensures) at (c .apply .ensures)
 
 pub fresh-spec : {M : Type 1} → statement M

@@ -1,18 +1,40 @@
 -- `Table::joined`: the newcomer's row is orderly, so it can be placed and the table settled.
-use mathlib.Core.Path.{refl}
+use mathlib.Core.Path.{refl, subst⁻¹, ap, _∙_, _≡_}
+use Prim.Native.Nat.{ℕ}
 use borrow.Author.Needs.{needs}
 use Rattle.laws.proofs.Tests.{clash}
+use Rattle.rows.specs.declared.Request.{Request}
+use Rattle.rows.specs.declared.Row.{Row}
 use Rattle.rows.specs.declared.State.the-variants.{Asking}
+use Rattle.rows.specs.Numbers.{lengthMeant}
+use Rattle.rows.specs.Requests.{opened, entering}
+use Rattle.rows.proofs.Requests.{entering-orderly}
+use Rattle.head.specs.Head.{entry}
+use Rattle.share.specs.declared.Table.{Table}
 use Rattle.share.specs.Asks.{Placing}
-use Rattle.share.specs.Events.{entry, entering, joined}
-use Rattle.share.proofs.Entry.{entry-high}
-use Rattle.share.proofs.Rows.{entering-orderly}
+use Rattle.share.specs.Events.{joined, meant}
+use Rattle.share.specs.Release.{released}
+use Rattle.share.specs.Sound.{orderly}
+use Rattle.share.specs.Table.{placed}
 use Rattle.share.proofs.Settling.{placed-settling}
+use Rattle.share.proofs.Totals.{entry-high, head-small}
 use Rattle.share.proofs.Table.joined.Statement.{statement}
 use Rattle.share.proofs.Table.joined.Tie as tie
 
 entry-requires : tie.Need-entry-requires
-entry-requires c κs = search needs
+entry-requires c κs = head-small _ (c .before .pre .0 .was-sound .orderly-table)
+
+same-opened : {p q l m : ℕ} → p ≡ q → l ≡ m → opened p l ≡ opened q m
+same-opened e f = rw (e, f) refl
+
+abbrev asking : ℕ → ℕ → Request → Row
+asking w p q = record { weight = w; position = p; state = Asking q }
+
+same-row : (w : ℕ) {p q : ℕ} {r s : Request} → p ≡ q → r ≡ s → asking w p r ≡ asking w q s
+same-row w e f = rw (e, f) refl
+
+default-of-requires : tie.Need-default-of-requires
+default-of-requires c κs = search needs
 
 length-meant-requires : tie.Need-length-meant-requires
 length-meant-requires c κs = search needs
@@ -20,49 +42,64 @@ length-meant-requires c κs = search needs
 opened-requires : tie.Need-opened-requires
 opened-requires c κs = search needs
 
-placing : (c : tie.After-opened) → let a = c .before .before .before .args in Placing (a .self) (a .queue) (record { weight = a .weight; position = c .before .before .entry .result; state = Asking (c .opened .result) })
-unfolding entering
-placing c =
-    let start = c .before .before .before in
-    let a = start .args in
-    let j = start .pre .0 in
-    let o = j .was-sound .orderly-table in
-    rw (c .opened .ensures, c .before .length-meant .ensures, c .before .before .entry .ensures)
-    (record {
-      orderly = o;
-      inside = j .inside;
-      new =
-          entering-orderly (a .weight) (entry (a .self)) (a .length)
-          (record { weight-low = j .weight-low; weight-high = j .weight-high; position-high = entry-high (a .self) o })
-          (j .length-high);
-    })
+-- the newcomer's row, once its request is opened
+module _ (c : tie.After-opened) where
+  abbrev meant-at : tie.After-length-meant
+  meant-at = c .before
+
+  abbrev entry-at : tie.After-entry
+  entry-at = meant-at .before .before
+
+  abbrev start : tie.Start
+  start = entry-at .before .before
+
+  abbrev table : Table
+  table = start .args .self
+
+  request-is : c .opened .result ≡ opened (entry (table .head)) (meant table (start .args .length))
+  request-is =
+      c .opened .ensures
+      ∙ same-opened (entry-at .entry .ensures) (meant-at .length-meant .ensures ∙ ap (λ (d : ℕ). lengthMeant d (start .args .length)) (meant-at .before .default-of .ensures))
+
+  row-is : asking (start .args .weight) (entry-at .entry .result) (c .opened .result) ≡ entering (start .args .weight) (entry (table .head)) (meant table (start .args .length))
+  unfolding entering
+  row-is = same-row (start .args .weight) (entry-at .entry .ensures) request-is
+
+  placing : Placing table (start .args .queue) (asking (start .args .weight) (entry-at .entry .result) (c .opened .result))
+  placing =
+      let j = start .pre .0 in
+      let o = j .was-sound .orderly-table in
+      subst⁻¹ (Placing table (start .args .queue)) row-is
+      (record {
+        orderly = o;
+        inside = j .inside;
+        new =
+            entering-orderly (table .head .terms) (start .args .weight) (entry (table .head)) (start .args .length)
+            (record { weight-low = j .weight-low; weight-high = j .weight-high; position-high = entry-high table o })
+            (j .length-high);
+      })
 
 placed-requires : tie.Need-placed-requires
 placed-requires c κs = placing c
 
 settled-requires : tie.Need-settled-requires
 settled-requires c κs =
-    let start = c .before .before .before .before in
-    let a = start .args in
+    let s = start (c .before) in
     rw (c .placed .ensures)
-    (placed-settling (a .self) (a .queue) _ (a .going) (placing (c .before)) (start .pre .0 .still) (start .pre .1) (λ g. absurd (clash g refl)))
+    (placed-settling (s .args .self) (s .args .queue) _ (s .args .nearest) (placing (c .before)) (s .pre .0 .still) (s .pre .1) (λ g. absurd (clash g refl)))
 
 returns : tie.Need-returns
-unfolding joined entering
+unfolding joined
 returns c =
-    rw (
-      c .settled .ensures,
-      c .before .placed .ensures,
-      c .before .before .opened .ensures,
-      c .before .before .before .length-meant .ensures,
-      c .before .before .before .before .entry .ensures,
-    )
+    let made = c .before .before in
+    c .settled .ensures ∙ ap released (c .before .placed .ensures ∙ ap (placed (table made) (start made .args .queue)) (row-is made))
 
 pub joined-spec : {M : Type 1} → statement M
 joined-spec =
     tie.close
     (tie.spec
     entry-requires
+    default-of-requires
     length-meant-requires
     opened-requires
     placed-requires

@@ -1,32 +1,40 @@
 -- `Table::lags`: the verdict is that of the definition's checks; refused, table and list go back as they came, and else the list is written.
 use mathlib.Core.Path.{_≡_, _∙_}
 use Prim.Native.Nat.{_≤_}
-use borrow.Author.Needs.{needs}
 use denote.Ref.{now}
 use lib.ListN.{length}
 use Rattle.rows.specs.Numbers.{queues}
-use Rattle.share.specs.Calls.{lagReply}
-use Rattle.share.specs.Refusals.{firstOf, unsound, lagChecks}
+use Rattle.head.specs.Refusals.{firstOf, verdictOf}
+use Rattle.head.proofs.Verdicts.{judge-first}
+use Rattle.share.specs.Calls.{lagChecks, lagReply}
 use Rattle.share.specs.Sound.{Sound}
-use Rattle.share.specs.Verdict.{verdictOf}
 use Rattle.share.proofs.Accepted.{lags-accepted}
-use Rattle.share.proofs.Surveying.{total-most}
-use Rattle.share.proofs.Verdicts.{none-applies-to, verdict-refused, verdict-fine, list-refused, list-written}
+use Rattle.share.proofs.Stepping.{none-applies-to, verdict-refused, verdict-fine, list-refused, list-written}
+use Rattle.share.proofs.Totals.{total-most}
+use borrow.Author.Needs.{needs}
 use Rattle.share.proofs.Table.lags.Statement.{statement}
 use Rattle.share.proofs.Table.lags.Tie as tie
 
 is-sound-requires : tie.Need-is-sound-requires
 is-sound-requires c κs = search needs
 
-first-requires : tie.Need-first-requires
-first-requires c κs = search needs
+or-requires : tie.Need-or-requires
+or-requires c κs = search needs
 
-tested : (c : tie.After-first) → let a = c .before .before .args in c .first .result ≡ verdictOf (firstOf (lagChecks (a .self) (now (a .list))))
-unfolding lagChecks unsound
-tested c = rw (c .before .is-sound .ensures) at (c .first .ensures)
+or-requires-2 : tie.Need-or-requires-2
+or-requires-2 c κs = search needs
 
-enum-known-why : tie.Need-enum-known-why
-enum-known-why c = search needs
+abbrev start-of : tie.After-or2 → tie.Start
+start-of c = c .before .before .before
+
+tested : (c : tie.After-or2) → let a = c .before .before .before .args in c .or2 .result ≡ verdictOf (firstOf (lagChecks (a .self) (now (a .list))))
+unfolding lagChecks
+tested c =
+    let a = c .before .before .before .args in
+    rw (c .or2 .ensures, c .before .or .ensures, c .before .before .is-sound .ensures) (judge-first (lagChecks (a .self) (now (a .list))))
+
+enum-known-verdict : tie.Need-enum-known-verdict
+enum-known-verdict c = search needs
 
 refused-requires : tie.Need-refused-requires
 refused-requires c κs = search needs
@@ -35,11 +43,11 @@ enum-told : tie.Need-enum-told
 enum-told c = search needs
 
 -- the table is sound and the list is long enough
-fine : (c : tie.After-enum-told) → let a = c .before .before .before .before .args in Sound (a .self) × (queues ≤ length (now (a .list)))
+fine : (c : tie.After-enum-told) → let a = start-of (c .before .before) .args in Sound (a .self) × (queues ≤ length (now (a .list)))
 fine c =
-    let first = c .before .before in
-    let a = first .before .before .args in
-    lags-accepted (a .self) (now (a .list)) (none-applies-to (lagChecks (a .self) (now (a .list))) (first .first .result) (tested first) (c .enum-told .given .1))
+    let judged = c .before .before in
+    let a = start-of judged .args in
+    lags-accepted (a .self) (now (a .list)) (none-applies-to (lagChecks (a .self) (now (a .list))) (judged .or2 .result) (tested judged) (c .enum-told .given .1))
 
 write-lags-requires : tie.Need-write-lags-requires
 write-lags-requires c κs = (fine (c .before) .0 .orderly-table, fine (c .before) .1)
@@ -50,10 +58,10 @@ reported-requires c κs = total-most _ (fine (c .before .before .before) .0 .ord
 returns : tie.Need-returns
 unfolding lagReply
 returns c =
-    let first = c .before .before .before .before in
-    let a = first .before .before .args in (
-      c .refused .ensures ∙ verdict-refused _ (first .first .result) (tested first) _ (c .before .before .why .given .1) _ _,
-      list-refused (a .self) (now (a .list)) (first .first .result) (tested first) _ (c .before .before .why .given .1),
+    let judged = c .before .before .before .before in
+    let a = start-of judged .args in (
+      c .refused .ensures ∙ verdict-refused _ (judged .or2 .result) (tested judged) _ (c .before .before .verdict .given .1) _ _,
+      list-refused (a .self) (now (a .list)) (judged .or2 .result) (tested judged) _ (c .before .before .verdict .given .1),
     )
 
 same-length : tie.Need-same-length
@@ -62,11 +70,12 @@ same-length c = search needs
 returns-2 : tie.Need-returns-2
 unfolding lagReply
 returns-2 c =
-    let first = c .before .before .before .before .before .before in
-    let a = first .before .before .args in
-    let told = c .before .before .before .before .enum-told .given .1 in (
-      c .reported .ensures ∙ verdict-fine _ (first .first .result) (tested first) told _ _,
-      c .before .before .write-lags .ensures ∙ list-written (a .self) (now (a .list)) (first .first .result) (tested first) told,
+    let written = c .before .before in
+    let nothing = written .before .before in
+    let judged = nothing .before .before in
+    let a = start-of judged .args in (
+      c .reported .ensures ∙ verdict-fine _ (judged .or2 .result) (tested judged) (nothing .enum-told .given .1) _ _,
+      written .write-lags .ensures ∙ list-written (a .self) (now (a .list)) (judged .or2 .result) (tested judged) (nothing .enum-told .given .1),
     )
 
 pub lags-spec : {M : Type 1} → statement M
@@ -74,8 +83,9 @@ lags-spec =
     tie.close
     (tie.spec
     is-sound-requires
-    first-requires
-    enum-known-why
+    or-requires
+    or-requires-2
+    enum-known-verdict
     refused-requires
     enum-told
     write-lags-requires

@@ -1,7 +1,9 @@
 -- `Table::placed` is the definition: the row set, and each sum with one share for another.
 use borrow.Author.Needs.{needs}
 use Rattle.share.specs.Table.{row, placed}
-use Rattle.share.proofs.Shares.{orderly-weight, exchange-weights, exchange-moments}
+use Rattle.rows.proofs.Shares.{orderly-weight}
+use Rattle.head.specs.Head.{summed}
+use Rattle.share.proofs.Totals.{exchange-weights, exchange-moments}
 use Rattle.share.proofs.Table.placed.Statement.{statement}
 use Rattle.share.proofs.Table.placed.Tie as tie
 
@@ -23,7 +25,7 @@ exchanged-requires c κs = let a = c .before .args in exchange-weights (a .self)
 
 moment-requires : tie.Need-moment-requires
 unfolding row
-moment-requires c κs = c .before .before .pre .orderly .each (c .before .before .args .queue)
+moment-requires c κs = let start = c .before .before .before in start .pre .orderly .each (start .args .queue)
 
 moment-requires-2 : tie.Need-moment-requires-2
 moment-requires-2 c κs = search needs
@@ -31,19 +33,21 @@ moment-requires-2 c κs = search needs
 exchanged-requires-2 : tie.Need-exchanged-requires-2
 unfolding row
 exchanged-requires-2 c κs =
-    let start = c .before .before .before .before in
+    let start = c .before .before .before .before .before in
     rw (c .before .moment .ensures, c .moment2 .ensures) (exchange-moments (start .args .self) (start .args .queue) (start .args .row) (start .pre))
 
 returns : tie.Need-returns
-unfolding row placed
+unfolding row placed summed
 returns c =
-    let start = c .before .before .before .before .before in
+    let summed-up = c .before in
+    let weighed = summed-up .before .before .before .before in
+    let start = weighed .before .before in
     let t = start .args .self in
     rw (
-      c .exchanged2 .ensures,
-      c .before .before .moment .ensures,
-      c .before .moment2 .ensures,
-      c .before .before .before .exchanged .ensures,
+      summed-up .exchanged2 .ensures,
+      summed-up .before .before .moment .ensures,
+      summed-up .before .moment2 .ensures,
+      weighed .exchanged .ensures,
       orderly-weight (row t (start .args .queue)) (start .pre .orderly .each (start .args .queue)),
       orderly-weight (start .args .row) (start .pre .new),
     )

@@ -1,7 +1,7 @@
 -- `Table::reported` is the definition; the denominator fits.
 use mathlib.Core.Path.{refl}
 use borrow.Author.Needs.{needs}
-use Rattle.share.specs.Lag.{lagUnit}
+use Rattle.head.specs.Lag.{lagUnit}
 use Rattle.share.proofs.Table.reported.Statement.{statement}
 use Rattle.share.proofs.Table.reported.Tie as tie
 

@@ -9,7 +9,8 @@ use denote.Ref.{now}
 use mir.Syntax.{w64}
 use mir.ValLaws.{toZ-ofZ}
 use Rattle.share.specs.Table.{row}
-use Rattle.share.proofs.Report.{Writing, writing-starts, writing-next, writing-ends}
+use Rattle.share.proofs.Written.{Writing, writing-starts, writing-next, writing-ends}
+use Rattle.share.proofs.Totals.{head-small}
 use Rattle.share.proofs.Table.write_lags.Statement.{statement}
 use Rattle.share.proofs.Table.write_lags.Tie as tie
 
@@ -31,14 +32,15 @@ element-copy-out-row c = omega arith
 lag-of-requires : tie.Need-lag-of-requires Inv-loop μ-loop
 unfolding row
 lag-of-requires c κs =
-    let start = c .before .before .before in
-    (start .pre .0, start .pre .0 .each (c .before .before .loop .i))
+    let head = c .before .before .before in
+    let start = head .before in
+    (head-small _ (start .pre .0), start .pre .0 .each (head .loop .i))
 
 mul-t7 : tie.Need-mul-t7 Inv-loop μ-loop
 mul-t7 c = search needs
 
 slice-set-from-list : tie.Need-slice-set-from-list Inv-loop μ-loop
-slice-set-from-list c = let head = c .before .before .before in omega (arith, head .loop .inv .1, head .before .pre .1, c .before .before .loop-test .taken)
+slice-set-from-list c = let turn = c .before .before .before in omega (arith, turn .before .loop .inv .1, turn .before .before .pre .1, turn .loop-test .taken)
 
 add-i : tie.Need-add-i Inv-loop μ-loop
 add-i c = omega arith
@@ -49,14 +51,15 @@ loop-less c = omega arith
 loop-again : tie.Need-loop-again Inv-loop μ-loop
 unfolding row
 loop-again c =
-    let head = c .before .before .before in
+    let turn = c .before .before .before in
+    let head = turn .before in
     let start = head .before in
     let t = start .args .t1 in
     let written = toZ-ofZ w64 (c .lag-of .result) (record { sfits = c .lag-of .ok }) in (
       omega arith,
       simp length-set (head .loop .inv .1),
       rw add-one
-          (writing-next t _ (head .loop .i) (head .loop .list) _ (c .before .before .loop-test .taken) (start .pre .0 .one-each)
+          (writing-next t _ (head .loop .i) (head .loop .list) _ (turn .loop-test .taken) (start .pre .0 .one-each)
           (omega (arith, head .loop .inv .1, start .pre .1)) (written ∙ c .lag-of .ensures) (head .loop .inv .2)),
     )
 

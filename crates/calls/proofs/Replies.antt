@@ -1,0 +1,47 @@
+-- What a call answers: a refusal, with the given table and every other value 0, or what the event does.
+use mathlib.Core.Bool.{true, false}
+use mathlib.Core.List.{List}
+use mathlib.Core.Option.{Option, none, some}
+use mathlib.Core.Path.{_≡_, refl}
+use Rattle.rows.specs.declared.Terms.{Terms}
+use Rattle.rows.specs.Numbers.{leastTerms}
+use Rattle.rows.specs.Orderly.{limitOutside}
+use Rattle.head.specs.declared.Refusal.{Refusal}
+use Rattle.head.specs.declared.Refusal.the-variants.{LimitOutside}
+use Rattle.head.specs.Answers.{refusalNumber, number, queueGranted, sliceGranted, denominatorGiven}
+use Rattle.head.specs.Refusals.{Check, firstOf, checksFor}
+use Rattle.share.specs.declared.Reply.{Reply}
+use Rattle.share.specs.declared.Table.{Table}
+use Rattle.share.specs.Calls.{call, refused, accepted, freshReply, checksOf, step}
+use Rattle.share.specs.Events.{emptyTable}
+use Rattle.share.proofs.Stepping.{call-refused, call-accepted}
+
+-- a call is refused or done
+pub call-cases : (P : Reply → Type 0) (checks : List Check) (t : Table) (event : Reply) → ((why : Refusal) → firstOf checks ≡ some why → P (refused t why)) → (firstOf checks ≡ none → P event) → P (call checks t event)
+unfolding call
+call-cases P checks t event if-refused if-done = by (firstOf checks) refl
+  where
+    by : (o : Option Refusal) → firstOf checks ≡ o → P (call checks t event)
+    by none e = rw (call-accepted checks t event e) (if-done e)
+    by (some why) e = rw (call-refused checks t event why e) (if-refused why e)
+
+pub fresh-refused : (terms : Terms) → limitOutside terms ≡ true → freshReply terms ≡ refused (emptyTable leastTerms) LimitOutside
+unfolding step checksOf checksFor
+fresh-refused terms e = call-refused _ _ _ _ (rw e refl)
+
+pub fresh-accepted : (terms : Terms) → limitOutside terms ≡ false → freshReply terms ≡ accepted (emptyTable terms)
+unfolding step checksOf checksFor
+fresh-accepted terms e = call-accepted _ _ _ (rw e refl)
+
+-- a call that answers a refusal hands the given table back equal, and its other values are 0
+pub record HandedBack (t : Table) (r : Reply) (why : Refusal) : Type 0 where
+  pub answer-is : number (r .answer) ≡ refusalNumber why
+  pub queue-none : queueGranted (r .answer) ≡ 0
+  pub slice-none : sliceGranted (r .answer) ≡ 0
+  pub denominator-none : denominatorGiven (r .answer) ≡ 0
+  pub table-same : r .table ≡ t
+
+pub refused-handed-back : (checks : List Check) (t : Table) (event : Reply) (why : Refusal) → firstOf checks ≡ some why → HandedBack t (call checks t event) why
+refused-handed-back checks t event why e =
+    rw (call-refused checks t event why e)
+    (record { answer-is = refl; queue-none = refl; slice-none = refl; denominator-none = refl; table-same = refl })

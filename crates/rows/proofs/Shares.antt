@@ -1,0 +1,53 @@
+-- An orderly row's part in W and A is its weight and its weight x position, a free one's being zero; and both are small.
+use mathlib.Core.Path.{_≡_, refl, sym}
+use mathlib.Core.Bool.{cond}
+use Prim.Native.Nat.{ℕ, _*_, _≤_}
+use native.Mathlib.Nat.{mul-le-mul}
+use native.Mathlib.Omega.{arith}
+use Rattle.rows.specs.declared.Row.{Row}
+use Rattle.rows.specs.declared.State.{State}
+use Rattle.rows.specs.declared.State.the-variants.{Free, Going, Asking}
+use Rattle.rows.specs.Numbers.{maxWeight, ceiling}
+use Rattle.rows.specs.Row.{isFree, weightIn, momentIn}
+use Rattle.rows.specs.Orderly.{OrderlyAs, OrderlyRow}
+
+pub moment-fits : {w p : ℕ} → w ≤ maxWeight → p ≤ ceiling → w * p ≤ maxWeight * ceiling
+moment-fits h l = mul-le-mul h l
+
+record Share (s : State) (w p : ℕ) : Type 0 where
+  weight-is : cond (isFree s) 0 w ≡ w
+  moment-is : cond (isFree s) 0 (w * p) ≡ w * p
+  weight-most : w ≤ maxWeight
+  position-most : p ≤ ceiling
+
+share-of : (s : State) (w p : ℕ) → OrderlyAs s w p → Share s w p
+share-of Free w p h =
+    record {
+      weight-is = sym (h .0);
+      moment-is = rw (h .0) (omega arith);
+      weight-most = omega (arith, h .0);
+      position-most = omega (arith, h .1);
+    }
+share-of Going w p h = record { weight-is = refl; moment-is = refl; weight-most = h .weight-high; position-most = h .position-high }
+share-of (Asking q) w p h = record { weight-is = refl; moment-is = refl; weight-most = h .0 .weight-high; position-most = h .0 .position-high }
+
+module _ (r : Row) (h : OrderlyRow r) where
+  share : Share (r .state) (r .weight) (r .position)
+  share = share-of (r .state) (r .weight) (r .position) h
+
+  pub orderly-weight : weightIn r ≡ r .weight
+  unfolding weightIn
+  orderly-weight = share .weight-is
+
+  pub orderly-moment : momentIn r ≡ r .weight * r .position
+  unfolding momentIn
+  orderly-moment = share .moment-is
+
+  pub weight-small : r .weight ≤ maxWeight
+  weight-small = share .weight-most
+
+  pub position-small : r .position ≤ ceiling
+  position-small = share .position-most
+
+  pub moment-small : r .weight * r .position ≤ maxWeight * ceiling
+  moment-small = moment-fits weight-small position-small
