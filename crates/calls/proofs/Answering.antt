@@ -26,7 +26,7 @@ pub checks-ordered : (t : Table) (e : Event) → ordered 0 (checksOf t e) ≡ tr
 unfolding checksOf
 checks-ordered t e = event-ordered (sound t) (t .head) (row t (concerns (chosen t) e)) e
 
-done-accepted : (t : Table) (e : Event) → number (doneBy t e .answer) ≡ 0
+pub done-accepted : (t : Table) (e : Event) → number (doneBy t e .answer) ≡ 0
 done-accepted t (Fresh terms) = refl
 done-accepted t (Join queue weight length) = refl
 done-accepted t (Leave queue) = refl

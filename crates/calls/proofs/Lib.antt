@@ -10,3 +10,5 @@ pub mod Granting
 pub mod OneDeparture
 pub mod Exactly
 pub mod Equations
+pub mod Calling
+pub mod Given

@@ -1,0 +1,345 @@
+-- "Given exactly when": a call answers a number exactly when that refusal speaks against it and none of a lower number does. On a sound table what speaks against
+-- a call is what its checks say, sentence by sentence; on another 1 answers, which is the lowest of all.
+use mathlib.Core.Bool.{true, false, not, Bool}
+use mathlib.Core.List.{List, [], _∷_}
+use mathlib.Core.Logic.{⊎-elim, _↔_}
+use mathlib.Core.Option.{Option, none, some}
+use mathlib.Core.Path.{_≡_, refl, sym, ap, _∙_, subst⁻¹, subst}
+use Prim.Native.Nat.{ℕ, _≤_, _<_}
+use native.Mathlib.Omega.{arith}
+use lib.ListN.{length, getD}
+use borrow.Author.Tests.{ltb-true, lt-ltb, not-true, leb-false, lt-leb}
+use Rattle.laws.proofs.Sums.{sum-bound}
+use Rattle.laws.proofs.Tests.{clash, le-or-lt, refuted}
+use Rattle.rows.specs.declared.Row.{Row}
+use Rattle.rows.specs.declared.State.{State}
+use Rattle.rows.specs.declared.State.the-variants.{Free, Going, Asking}
+use Rattle.rows.specs.declared.Terms.{Terms}
+use Rattle.rows.specs.Numbers.{maxWeight, maxLimit, ceiling}
+use Rattle.rows.specs.Order.{bid, bidAs, bidOf}
+use Rattle.rows.specs.Orderly.{OrderlyAs, limitOutside, fitsCeiling}
+use Rattle.rows.specs.Row.{blank, isFree, weightIn}
+use Rattle.rows.specs.Virtual.{eligibleAs, eligibleAt}
+use Rattle.rows.proofs.Orderly.{outside-says, says-outside}
+use Rattle.rows.proofs.Shares.{orderly-weight}
+use Rattle.head.specs.declared.Event.{Event}
+use Rattle.head.specs.declared.Event.the-variants.{Fresh, Join, Leave, Reweight, Length, Grant, Return}
+use Rattle.head.specs.declared.Refusal.{Refusal}
+use Rattle.head.specs.declared.Refusal.the-variants.{Unsound, QueueOutside, WeightOutside, LengthOutside, SliceOut, NotHolder, RowTaken, NotAsking, LagBelow, TicksOutside, TableEmpty, CeilingPassed, ListShort, LimitOutside}
+use Rattle.head.specs.Answers.{refusalNumber, number}
+use Rattle.head.specs.Refusals.{Check, _when_, checksFor, rowTaken, notAsking, ticksOutside, ceilingPassed, passedAs, firstOf}
+use Rattle.share.specs.declared.Reply.{Reply}
+use Rattle.share.specs.declared.Table.{Table}
+use Rattle.share.specs.Calls.{checksOf, releaseChecks, lagChecks}
+use Rattle.share.specs.Choice.{eligible, deadline, choice}
+use Rattle.share.specs.Events.{chosenOr0, chosen}
+use Rattle.share.specs.Sound.{Sound, Orderly, sound}
+use Rattle.share.specs.Table.{row, trueTotal}
+use Rattle.share.proofs.Mean.{chosen-rightly}
+use Rattle.share.proofs.Placed.{weight-within}
+use Rattle.share.proofs.Sound.{row-past, sound-says, says-sound}
+use Rattle.share.proofs.Totals.{sums-true}
+use Rattle.calls.specs.Against.{AllFree, Against, fresh-14, join-1, join-2, join-3, join-4, join-5, join-7, leave-1, leave-2, leave-5, leave-8, reweight-1, reweight-2, reweight-3, reweight-4, reweight-5, reweight-8, reweight-9, length-1, length-2, length-4, length-5, length-8, grant-1, grant-5, grant-11, grant-12, return-1, return-2, return-6, return-10, release-1, report-1, report-13, PastCeiling, NotSound, OnTable, NoneLower}
+use Rattle.calls.specs.Public.{Call, event, release, report, checksOn, answered}
+use Rattle.calls.proofs.Applying.{none-applies, Applies, here, later, queue-outside, length-outside, unsound-says, not-holder-says, lag-below-says, empty-says, first-applies, applies-given, first-lowest, lowest-first}
+use Rattle.calls.proofs.Calling.{answered-done, answered-refused, on-ordered, done-number}
+use Rattle.calls.proofs.Choosing.{chosen-choice}
+
+-- a refusal is known by its number, and no number is 0
+abbrev refusalOf : ℕ → Refusal
+refusalOf n =
+    getD (Unsound ∷ Unsound ∷ QueueOutside ∷ WeightOutside ∷ LengthOutside ∷ SliceOut ∷ NotHolder ∷ RowTaken ∷ NotAsking ∷ LagBelow ∷ TicksOutside ∷ TableEmpty ∷ CeilingPassed ∷ ListShort ∷ LimitOutside ∷ []) n Unsound
+
+known : (why : Refusal) → (refusalOf (refusalNumber why) ≡ why) × (1 ≤ refusalNumber why)
+known Unsound = (refl, omega arith)
+known QueueOutside = (refl, omega arith)
+known WeightOutside = (refl, omega arith)
+known LengthOutside = (refl, omega arith)
+known SliceOut = (refl, omega arith)
+known NotHolder = (refl, omega arith)
+known RowTaken = (refl, omega arith)
+known NotAsking = (refl, omega arith)
+known LagBelow = (refl, omega arith)
+known TicksOutside = (refl, omega arith)
+known TableEmpty = (refl, omega arith)
+known CeilingPassed = (refl, omega arith)
+known ListShort = (refl, omega arith)
+known LimitOutside = (refl, omega arith)
+
+same-refusal : (a b : Refusal) → refusalNumber a ≡ refusalNumber b → a ≡ b
+same-refusal a b e = sym (known a .0) ∙ ap refusalOf e ∙ known b .0
+
+-- 11: on a sound table W is 0 exactly when every row is free
+zero-free : (s : State) (w p : ℕ) → OrderlyAs s w p → w ≡ 0 → isFree s ≡ true
+zero-free Free w p o e = refl
+zero-free Going w p o e = absurd (omega (arith, o .weight-low))
+zero-free (Asking q) w p o e = absurd (omega (arith, o .0 .weight-low))
+
+free-weightless : (r : Row) → isFree (r .state) ≡ true → weightIn r ≤ 0
+unfolding weightIn
+free-weightless r e = rw e (omega arith)
+
+pub empty-free : (t : Table) → Sound t → (t .head .total ≡ 0) ↔ AllFree t
+unfolding trueTotal row
+empty-free t is = (there, back)
+  where
+    o : Orderly t
+    o = is .orderly-table
+
+    there : t .head .total ≡ 0 → AllFree t
+    there empty i =
+        ⊎-elim (λ past. ap (λ (r : Row). isFree (r .state)) (row-past t i past))
+        (λ inside. zero-free (row t i .state) (row t i .weight) (row t i .position) (o .each i)
+        (omega (arith, weight-within t i (sums-true o) inside, orderly-weight (row t i) (o .each i))))
+        (le-or-lt (length (t .rows)) i)
+
+    back : AllFree t → t .head .total ≡ 0
+    back free = omega (arith, o .total-true, sum-bound weightIn (t .rows) blank 0 (λ i l. free-weightless (row t i) (free i)))
+
+-- 12: the deadline of the row that is chosen
+passed-asks : (s : State) (w : ℕ) → passedAs s w ≡ true → isFree s ≡ false
+passed-asks Free w e = absurd (clash e refl)
+passed-asks Going w e = refl
+passed-asks (Asking q) w e = refl
+
+passed-deadline : (s : State) (w : ℕ) → passedAs s w ≡ true → ceiling < bidAs s w .deadline
+unfolding fitsCeiling bidOf
+passed-deadline Free w e = absurd (clash e refl)
+passed-deadline Going w e = absurd (clash e refl)
+passed-deadline (Asking q) w e = leb-false _ _ (not-true _ e)
+
+deadline-passed : (total sum : ℕ) (s : State) (w : ℕ) → eligibleAs total sum s ≡ true → ceiling < bidAs s w .deadline → passedAs s w ≡ true
+unfolding fitsCeiling bidOf
+deadline-passed total sum Free w e above = absurd (clash e refl)
+deadline-passed total sum Going w e above = absurd (clash e refl)
+deadline-passed total sum (Asking q) w e above = ap not (lt-leb _ _ above)
+
+chosen-is : (t : Table) (i : ℕ) → choice t ≡ some i → chosen t ≡ i
+unfolding chosen
+chosen-is t i e = ap chosenOr0 e
+
+module _ (t : Table) (is : Sound t) where
+  present : isFree (row t (chosen t) .state) ≡ false → 0 < t .head .total
+  present taken = ⊎-elim (λ l. l) (λ none-there. absurd (clash (empty-free t is .0 (omega arith) (chosen t)) taken)) (le-or-lt 1 (t .head .total))
+
+  pub ceiling-says : (ceilingPassed (row t (chosen t)) ≡ true) ↔ PastCeiling t
+  unfolding ceilingPassed deadline bid eligible eligibleAt
+  ceiling-says = (
+    λ e. let r = row t (chosen t) in
+        record {
+          queue = chosen t;
+          is-chosen = chosen-rightly t is (present (passed-asks (r .state) (r .weight) e));
+          above = passed-deadline (r .state) (r .weight) e;
+        },
+    λ p. let same : chosen t ≡ p .queue = chosen-is t (p .queue) (chosen-choice t (p .queue) (p .is-chosen)) in
+        let r = row t (p .queue) in
+        subst⁻¹ (λ (i : ℕ). passedAs (row t i .state) (row t i .weight) ≡ true) same
+        (deadline-passed (t .head .total) (t .head .sum) (r .state) (r .weight) (p .is-chosen .asks) (p .above)),
+  )
+
+-- one check after the other
+module _ (S : Refusal → Type 0) where
+  first-of : {why this : Refusal} {b : Bool} {rest : List Check} → (b ≡ true → S this) → (Applies why rest → S why) → Applies why ((this when b) ∷ rest) → S why
+  first-of f g (here p) = f p
+  first-of f g (later h) = g h
+
+  no-more : {why : Refusal} → Applies why [] → S why
+  no-more h = absurd (none-applies h refl)
+
+-- On a sound table what speaks against a call is what its checks say.
+module _ (t : Table) (is : Sound t) where
+  reads-event : (e : Event) {why : Refusal} → Applies why (checksOf t e) → Against t (event e) why
+  unfolding checksOf checksFor rowTaken notAsking ticksOutside limitOutside
+  reads-event (Fresh terms) =
+      first-of (Against t (event (Fresh terms))) (λ p. fresh-14 (outside-says 1 maxLimit (terms .limit) p))
+      (no-more (Against t (event (Fresh terms))))
+  reads-event (Join q w l) =
+      first-of (Against t (event (Join q w l))) (λ p. join-1 (unsound-says t .0 p))
+      (first-of (Against t (event (Join q w l))) (λ p. join-2 (queue-outside q .0 p))
+      (first-of (Against t (event (Join q w l))) (λ p. join-3 (outside-says 1 maxWeight w p))
+      (first-of (Against t (event (Join q w l))) (λ p. join-4 (length-outside l .0 p))
+      (first-of (Against t (event (Join q w l))) (λ p. join-5 p)
+      (first-of (Against t (event (Join q w l))) (λ p. join-7 (not-true _ p))
+      (no-more (Against t (event (Join q w l)))))))))
+  reads-event (Leave q) =
+      first-of (Against t (event (Leave q))) (λ p. leave-1 (unsound-says t .0 p))
+      (first-of (Against t (event (Leave q))) (λ p. leave-2 (queue-outside q .0 p))
+      (first-of (Against t (event (Leave q))) (λ p. leave-5 p)
+      (first-of (Against t (event (Leave q))) (λ p. leave-8 (not-true _ p))
+      (no-more (Against t (event (Leave q)))))))
+  reads-event (Reweight q w l) =
+      first-of (Against t (event (Reweight q w l))) (λ p. reweight-1 (unsound-says t .0 p))
+      (first-of (Against t (event (Reweight q w l))) (λ p. reweight-2 (queue-outside q .0 p))
+      (first-of (Against t (event (Reweight q w l))) (λ p. reweight-3 (outside-says 1 maxWeight w p))
+      (first-of (Against t (event (Reweight q w l))) (λ p. reweight-4 (length-outside l .0 p))
+      (first-of (Against t (event (Reweight q w l))) (λ p. reweight-5 p)
+      (first-of (Against t (event (Reweight q w l))) (λ p. reweight-8 (not-true _ p))
+      (first-of (Against t (event (Reweight q w l))) (λ p. reweight-9 (lag-below-says (t .head) (row t q) .0 p))
+      (no-more (Against t (event (Reweight q w l))))))))))
+  reads-event (Length q l) =
+      first-of (Against t (event (Length q l))) (λ p. length-1 (unsound-says t .0 p))
+      (first-of (Against t (event (Length q l))) (λ p. length-2 (queue-outside q .0 p))
+      (first-of (Against t (event (Length q l))) (λ p. length-4 (length-outside l .0 p))
+      (first-of (Against t (event (Length q l))) (λ p. length-5 p)
+      (first-of (Against t (event (Length q l))) (λ p. length-8 (not-true _ p))
+      (no-more (Against t (event (Length q l))))))))
+  reads-event Grant =
+      first-of (Against t (event Grant)) (λ p. grant-1 (unsound-says t .0 p))
+      (first-of (Against t (event Grant)) (λ p. grant-5 p)
+      (first-of (Against t (event Grant)) (λ p. grant-11 (empty-free t is .0 (empty-says (t .head) .0 p)))
+      (first-of (Against t (event Grant)) (λ p. grant-12 (ceiling-says t is .0 p))
+      (no-more (Against t (event Grant))))))
+  reads-event (Return q u early) =
+      first-of (Against t (event (Return q u early))) (λ p. return-1 (unsound-says t .0 p))
+      (first-of (Against t (event (Return q u early))) (λ p. return-2 (queue-outside q .0 p))
+      (first-of (Against t (event (Return q u early))) (λ p. return-6 (not-holder-says (t .head) q .0 p))
+      (first-of (Against t (event (Return q u early))) (λ p. return-10 (ltb-true _ _ p))
+      (no-more (Against t (event (Return q u early)))))))
+
+  reads : (c : Call) (why : Refusal) → Applies why (checksOn t c) → Against t c why
+  unfolding releaseChecks lagChecks
+  reads (event e) why = reads-event e
+  reads release why = first-of (Against t release) (λ p. release-1 (unsound-says t .0 p)) (no-more (Against t release))
+  reads (report lent) why =
+      first-of (Against t (report lent)) (λ p. report-1 (unsound-says t .0 p))
+      (first-of (Against t (report lent)) (λ p. report-13 (ltb-true _ _ p)) (no-more (Against t (report lent))))
+
+  back : {c : Call} {why : Refusal} → Against t c why → Applies why (checksOn t c)
+  unfolding checksOf checksFor rowTaken notAsking ticksOutside limitOutside releaseChecks lagChecks
+  back (fresh-14 {terms} h) = here (says-outside 1 maxLimit (terms .limit) h)
+  back (join-1 h) = here (unsound-says t .1 h)
+  back (join-2 {q} h) = later (here (queue-outside q .1 h))
+  back (join-3 {w = w} h) = later (later (here (says-outside 1 maxWeight w h)))
+  back (join-4 {l = l} h) = later (later (later (here (length-outside l .1 h))))
+  back (join-5 h) = later (later (later (later (here h))))
+  back (join-7 h) = later (later (later (later (later (here (ap not h))))))
+  back (leave-1 h) = here (unsound-says t .1 h)
+  back (leave-2 {q} h) = later (here (queue-outside q .1 h))
+  back (leave-5 h) = later (later (here h))
+  back (leave-8 h) = later (later (later (here (ap not h))))
+  back (reweight-1 h) = here (unsound-says t .1 h)
+  back (reweight-2 {q} h) = later (here (queue-outside q .1 h))
+  back (reweight-3 {w = w} h) = later (later (here (says-outside 1 maxWeight w h)))
+  back (reweight-4 {l = l} h) = later (later (later (here (length-outside l .1 h))))
+  back (reweight-5 h) = later (later (later (later (here h))))
+  back (reweight-8 h) = later (later (later (later (later (here (ap not h))))))
+  back (reweight-9 {q} h) = later (later (later (later (later (later (here (lag-below-says (t .head) (row t q) .1 h)))))))
+  back (length-1 h) = here (unsound-says t .1 h)
+  back (length-2 {q} h) = later (here (queue-outside q .1 h))
+  back (length-4 {l = l} h) = later (later (here (length-outside l .1 h)))
+  back (length-5 h) = later (later (later (here h)))
+  back (length-8 h) = later (later (later (later (here (ap not h)))))
+  back (grant-1 h) = here (unsound-says t .1 h)
+  back (grant-5 h) = later (here h)
+  back (grant-11 h) = later (later (here (empty-says (t .head) .1 (empty-free t is .1 h))))
+  back (grant-12 h) = later (later (later (here (ceiling-says t is .1 h))))
+  back (return-1 h) = here (unsound-says t .1 h)
+  back (return-2 {q} h) = later (here (queue-outside q .1 h))
+  back (return-6 {q} h) = later (later (here (not-holder-says (t .head) q .1 h)))
+  back (return-10 h) = later (later (later (here (lt-ltb _ _ h))))
+  back (release-1 h) = here (unsound-says t .1 h)
+  back (report-1 h) = here (unsound-says t .1 h)
+  back (report-13 h) = later (here (lt-ltb _ _ h))
+
+-- a call whose checks say what speaks against it
+module _ (t : Table) (c : Call) (read : (why : Refusal) → Applies why (checksOn t c) → Against t c why) (unread : (why : Refusal) → Against t c why → Applies why (checksOn t c)) (why : Refusal) where
+  given-speaks : number (answered t c .answer) ≡ refusalNumber why → Against t c why × NoneLower t c why
+  given-speaks e = by (firstOf (checksOn t c)) refl
+    where
+      by : (o : Option Refusal) → firstOf (checksOn t c) ≡ o → Against t c why × NoneLower t c why
+      by none is =
+          absurd (omega (arith, known why .1, ap (λ (r : Reply). number (r .answer)) (answered-done t c is), done-number t c))
+      by (some given) is =
+          let same : given ≡ why = same-refusal given why (sym (answered-refused t c given is .answer-is) ∙ e) in
+          let first : firstOf (checksOn t c) ≡ some why = is ∙ ap some same in (
+            read why (first-applies (checksOn t c) why first),
+            λ other lower against. omega (arith, first-lowest 0 why (unread other against) (on-ordered t c) first),
+          )
+
+  speaks-given : Against t c why → NoneLower t c why → number (answered t c .answer) ≡ refusalNumber why
+  speaks-given against lowest =
+      let applies = unread why against in
+      let found = applies-given (checksOn t c) why applies in
+      answered-refused t c (found .0) (found .1) .answer-is
+      ∙ lowest-first (checksOn t c) 0 why (on-ordered t c) applies
+        (λ other h. ⊎-elim (λ below. below) (λ lower. absurd (lowest other lower (read other h))) (le-or-lt (refusalNumber why) (refusalNumber other)))
+        (found .0) (found .1)
+
+-- a fresh table asks nothing of the present one
+fresh-reads : (t : Table) (terms : Terms) (why : Refusal) → Applies why (checksOf t (Fresh terms)) → Against t (event (Fresh terms)) why
+unfolding checksOf checksFor limitOutside
+fresh-reads t terms why (here p) = fresh-14 (outside-says 1 maxLimit (terms .limit) p)
+
+fresh-back : (t : Table) (terms : Terms) (why : Refusal) → Against t (event (Fresh terms)) why → Applies why (checksOf t (Fresh terms))
+unfolding checksOf checksFor limitOutside
+fresh-back t terms why (fresh-14 h) = here (says-outside 1 maxLimit (terms .limit) h)
+
+-- on a table that isn't sound every other call answers 1
+module _ (t : Table) (not-sound : NotSound t) where
+  fails : sound t ≡ false
+  fails = refuted (sound t) (λ e. not-sound (sound-says t e))
+
+  one-first : (c : Call) → OnTable c → (firstOf (checksOn t c) ≡ some Unsound) × Against t c Unsound
+  unfolding checksOf checksFor releaseChecks lagChecks
+  one-first (event (Fresh terms)) on = absurd on
+  one-first (event (Join q w l)) on = (rw fails refl, join-1 not-sound)
+  one-first (event (Leave q)) on = (rw fails refl, leave-1 not-sound)
+  one-first (event (Reweight q w l)) on = (rw fails refl, reweight-1 not-sound)
+  one-first (event (Length q l)) on = (rw fails refl, length-1 not-sound)
+  one-first (event Grant) on = (rw fails refl, grant-1 not-sound)
+  one-first (event (Return q u early)) on = (rw fails refl, return-1 not-sound)
+  one-first release on = (rw fails refl, release-1 not-sound)
+  one-first (report lent) on = (rw fails refl, report-1 not-sound)
+
+  module _ (c : Call) (on : OnTable c) (why : Refusal) where
+    one : number (answered t c .answer) ≡ 1
+    one = answered-refused t c Unsound (one-first c on .0) .answer-is
+
+    one-speaks : number (answered t c .answer) ≡ refusalNumber why → Against t c why × NoneLower t c why
+    one-speaks e =
+        let same : Unsound ≡ why = same-refusal Unsound why (sym one ∙ e) in (
+          subst (Against t c) same (one-first c on .1),
+          λ other lower against. omega (arith, known other .1, one, e),
+        )
+
+    one-given : NoneLower t c why → number (answered t c .answer) ≡ refusalNumber why
+    one-given lowest =
+        ⊎-elim (λ higher. absurd (lowest Unsound higher (one-first c on .1))) (λ low. omega (arith, one, known why .1)) (le-or-lt 2 (refusalNumber why))
+
+exactly-on : (t : Table) (c : Call) → OnTable c → (why : Refusal) → (number (answered t c .answer) ≡ refusalNumber why) ↔ (Against t c why × NoneLower t c why)
+exactly-on t c on why = by (sound t) refl
+  where
+    by : (b : Bool) → sound t ≡ b → (number (answered t c .answer) ≡ refusalNumber why) ↔ (Against t c why × NoneLower t c why)
+    by true e =
+        let is = sound-says t e in
+        (given-speaks t c (reads t is c) (λ w h. back t is h) why, λ h. speaks-given t c (reads t is c) (λ w h. back t is h) why (h .0) (h .1))
+    by false e =
+        let no : NotSound t = λ is. clash (says-sound t is) e in (one-speaks t no c on why, λ h. one-given t no c on why (h .1))
+
+pub given-exactly : (t : Table) (c : Call) (why : Refusal) → (number (answered t c .answer) ≡ refusalNumber why) ↔ (Against t c why × NoneLower t c why)
+given-exactly t (event (Fresh terms)) why = (
+  given-speaks t (event (Fresh terms)) (fresh-reads t terms) (fresh-back t terms) why,
+  λ h. speaks-given t (event (Fresh terms)) (fresh-reads t terms) (fresh-back t terms) why (h .0) (h .1),
+)
+given-exactly t (event (Join q w l)) why = exactly-on t (event (Join q w l)) tt why
+given-exactly t (event (Leave q)) why = exactly-on t (event (Leave q)) tt why
+given-exactly t (event (Reweight q w l)) why = exactly-on t (event (Reweight q w l)) tt why
+given-exactly t (event (Length q l)) why = exactly-on t (event (Length q l)) tt why
+given-exactly t (event Grant) why = exactly-on t (event Grant) tt why
+given-exactly t (event (Return q u early)) why = exactly-on t (event (Return q u early)) tt why
+given-exactly t release why = exactly-on t release tt why
+given-exactly t (report lent) why = exactly-on t (report lent) tt why
+
+-- 1 answers exactly when the table isn't sound
+one-words : {t : Table} {c : Call} → Against t c Unsound → NotSound t
+one-words (join-1 h) = h
+one-words (leave-1 h) = h
+one-words (reweight-1 h) = h
+one-words (length-1 h) = h
+one-words (grant-1 h) = h
+one-words (return-1 h) = h
+one-words (release-1 h) = h
+one-words (report-1 h) = h
+
+pub one-exactly : (t : Table) (c : Call) → OnTable c → (number (answered t c .answer) ≡ 1) ↔ NotSound t
+one-exactly t c on = (λ n. one-words (given-exactly t c Unsound .0 n .0), λ no. one t no c on Unsound)

@@ -1,0 +1,49 @@
+-- The public calls on a table, and runs of them.
+use mathlib.Core.List.{List, [], _∷_}
+use lib.IntN.{ℤ}
+use Rattle.rows.specs.declared.Terms.{Terms}
+use Rattle.head.specs.declared.Event.{Event}
+use Rattle.head.specs.Refusals.{Check}
+use Rattle.share.specs.declared.Reply.{Reply}
+use Rattle.share.specs.declared.Table.{Table}
+use Rattle.share.specs.Calls.{step, checksOf, doneBy, accepted, freshReply, releaseChecks, releaseReply, lagChecks, lagReply, reportedReply}
+use Rattle.share.specs.Release.{released}
+
+-- one of the seven events, a release, or the lag report on a lent list
+pub data Call : Type 0 where
+  event : Event → Call
+  release : Call
+  report : List ℤ → Call
+
+-- what the call answers, by the function that its contract cites
+abbrev pub answered : Table → Call → Reply
+answered t (event e) = step t e
+answered t release = releaseReply t
+answered t (report lent) = lagReply t lent
+
+-- what it is refused for, in its order, and what it does where nothing of that applies
+abbrev pub checksOn : Table → Call → List Check
+checksOn t (event e) = checksOf t e
+checksOn t release = releaseChecks t
+checksOn t (report lent) = lagChecks t lent
+
+abbrev pub doneOn : Table → Call → Reply
+doneOn t (event e) = doneBy t e
+doneOn t release = accepted (released t)
+doneOn t (report lent) = reportedReply t
+
+-- the table that a list of calls leaves
+abbrev pub runCalls : Table → List Call → Table
+runCalls t [] = t
+runCalls t (c ∷ cs) = runCalls (answered t c .table) cs
+
+-- "Over any run of calls from a fresh table": from the one that `fresh` hands back
+unfoldable pub tableOf : Terms → List Call → Table
+tableOf terms cs = runCalls (freshReply terms .table) cs
+
+-- the events among the calls, in their order
+abbrev pub eventsOf : List Call → List Event
+eventsOf [] = []
+eventsOf (event e ∷ cs) = e ∷ eventsOf cs
+eventsOf (release ∷ cs) = eventsOf cs
+eventsOf (report lent ∷ cs) = eventsOf cs
