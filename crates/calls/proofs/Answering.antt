@@ -19,8 +19,9 @@ use Rattle.share.specs.Events.{chosen}
 use Rattle.share.specs.Sound.{sound}
 use Rattle.share.specs.Table.{row}
 use Rattle.share.proofs.Stepping.{call-refused, call-accepted}
+use Rattle.calls.specs.Public.{HandedBack}
 use Rattle.calls.proofs.Applying.{Applies, ordered, first-lowest, event-ordered}
-use Rattle.calls.proofs.Replies.{refused-handed-back, HandedBack}
+use Rattle.calls.proofs.Replies.{refused-handed-back}
 
 pub checks-ordered : (t : Table) (e : Event) → ordered 0 (checksOf t e) ≡ true
 unfolding checksOf

@@ -6,29 +6,28 @@ use mathlib.Core.Logic.{_≢_}
 use mathlib.Core.Option.{Option, none, some}
 use mathlib.Core.Path.{_≡_, refl, sym, ap, _∙_}
 use Prim.Native.Nat.{_≤_}
-use lib.IntN.{ℤ}
 use Rattle.rows.specs.declared.Terms.{Terms}
 use Rattle.rows.specs.Orderly.{Allowed}
 use Rattle.rows.proofs.Orderly.{within-limit}
-use Rattle.head.specs.declared.Event.{Event}
 use Rattle.head.specs.declared.Refusal.{Refusal}
 use Rattle.head.specs.Answers.{refusalNumber, number}
 use Rattle.head.specs.Refusals.{firstOf}
 use Rattle.share.specs.declared.Reply.{Reply}
 use Rattle.share.specs.declared.Table.{Table}
-use Rattle.share.specs.Calls.{call, step, accepted, freshReply, releaseChecks, releaseReply, lagReply}
+use Rattle.share.specs.Calls.{call, step, accepted, releaseChecks, releaseReply, lagReply}
 use Rattle.share.specs.Events.{emptyTable}
 use Rattle.share.specs.Release.{released, done}
 use Rattle.share.specs.Runs.{run}
 use Rattle.share.specs.Sound.{Sound}
 use Rattle.share.proofs.Accepted.{nothing-to-free}
 use Rattle.share.proofs.Release.{frees-released}
+use Rattle.share.proofs.Sound.{says-sound}
 use Rattle.share.proofs.Stepping.{call-accepted}
 use Rattle.share.proofs.Totals.{sums-true}
-use Rattle.calls.specs.Public.{Call, event, release, report, answered, checksOn, doneOn, runCalls, tableOf, eventsOf}
+use Rattle.calls.specs.Public.{HandedBack, Call, event, release, report, answered, checksOn, doneOn, runCalls, tableOf, eventsOf}
 use Rattle.calls.proofs.Answering.{checks-ordered, done-accepted, report-table}
 use Rattle.calls.proofs.Applying.{Applies, ordered, first-lowest, release-ordered, lag-ordered}
-use Rattle.calls.proofs.Replies.{call-cases, fresh-accepted, refused-handed-back, HandedBack}
+use Rattle.calls.proofs.Replies.{call-cases, fresh-accepted, refused-handed-back}
 use Rattle.calls.proofs.Soundness.{step-keeps}
 
 pub answered-is : (t : Table) (c : Call) → answered t c ≡ call (checksOn t c) t (doneOn t c)
@@ -73,6 +72,10 @@ pub release-table : (t : Table) → releaseReply t .table ≡ t
 unfolding releaseReply
 release-table t =
     call-cases (λ (r : Reply). r .table ≡ t) (releaseChecks t) t (accepted (released t)) (λ why is. refl) (λ fine. sym (nothing-to-free t fine))
+
+pub release-sound : (t : Table) → Sound t → releaseReply t ≡ accepted t
+unfolding releaseReply releaseChecks
+release-sound t is = call-accepted (releaseChecks t) t (accepted (released t)) (rw (says-sound t is) refl) ∙ ap accepted (released-same t is)
 
 -- so a run of calls is the run of its events
 pub calls-run : (t : Table) (cs : List Call) → runCalls t cs ≡ run t (eventsOf cs)

@@ -40,7 +40,7 @@ use Rattle.share.proofs.Placed.{weight-within}
 use Rattle.share.proofs.Sound.{row-past, sound-says, says-sound}
 use Rattle.share.proofs.Totals.{sums-true}
 use Rattle.calls.specs.Against.{AllFree, Against, fresh-14, join-1, join-2, join-3, join-4, join-5, join-7, leave-1, leave-2, leave-5, leave-8, reweight-1, reweight-2, reweight-3, reweight-4, reweight-5, reweight-8, reweight-9, length-1, length-2, length-4, length-5, length-8, grant-1, grant-5, grant-11, grant-12, return-1, return-2, return-6, return-10, release-1, report-1, report-13, PastCeiling, NotSound, OnTable, NoneLower}
-use Rattle.calls.specs.Public.{Call, event, release, report, checksOn, answered}
+use Rattle.calls.specs.Public.{HandedBack, doneOn, Call, event, release, report, checksOn, answered}
 use Rattle.calls.proofs.Applying.{none-applies, Applies, here, later, queue-outside, length-outside, unsound-says, not-holder-says, lag-below-says, empty-says, first-applies, applies-given, first-lowest, lowest-first}
 use Rattle.calls.proofs.Calling.{answered-done, answered-refused, on-ordered, done-number}
 use Rattle.calls.proofs.Choosing.{chosen-choice}
@@ -262,8 +262,8 @@ module _ (t : Table) (c : Call) (read : (why : Refusal) → Applies why (checksO
       let found = applies-given (checksOn t c) why applies in
       answered-refused t c (found .0) (found .1) .answer-is
       ∙ lowest-first (checksOn t c) 0 why (on-ordered t c) applies
-        (λ other h. ⊎-elim (λ below. below) (λ lower. absurd (lowest other lower (read other h))) (le-or-lt (refusalNumber why) (refusalNumber other)))
-        (found .0) (found .1)
+      (λ other h. ⊎-elim (λ below. below) (λ lower. absurd (lowest other lower (read other h))) (le-or-lt (refusalNumber why) (refusalNumber other)))
+      (found .0) (found .1)
 
 -- a fresh table asks nothing of the present one
 fresh-reads : (t : Table) (terms : Terms) (why : Refusal) → Applies why (checksOf t (Fresh terms)) → Against t (event (Fresh terms)) why
@@ -343,3 +343,21 @@ one-words (report-1 h) = h
 
 pub one-exactly : (t : Table) (c : Call) → OnTable c → (number (answered t c .answer) ≡ 1) ↔ NotSound t
 one-exactly t c on = (λ n. one-words (given-exactly t c Unsound .0 n .0), λ no. one t no c on Unsound)
+
+-- a number other than 0 is that of a refusal, with the table as given and every other value 0
+pub refused-by : (t : Table) (c : Call) (why : Refusal) → number (answered t c .answer) ≡ refusalNumber why → HandedBack t (answered t c) why
+refused-by t c why e = by (firstOf (checksOn t c)) refl
+  where
+    by : (o : Option Refusal) → firstOf (checksOn t c) ≡ o → HandedBack t (answered t c) why
+    by none is = absurd (omega (arith, known why .1, ap (λ (r : Reply). number (r .answer)) (answered-done t c is), done-number t c))
+    by (some given) is =
+        subst (HandedBack t (answered t c)) (same-refusal given why (sym (answered-refused t c given is .answer-is) ∙ e)) (answered-refused t c given is)
+
+-- and where nothing speaks against it the call is done
+pub done-where-nothing : (t : Table) (c : Call) → ((why : Refusal) → Against t c why → ⊥) → answered t c ≡ doneOn t c
+done-where-nothing t c nothing-speaks = by (firstOf (checksOn t c)) refl
+  where
+    by : (o : Option Refusal) → firstOf (checksOn t c) ≡ o → answered t c ≡ doneOn t c
+    by none is = answered-done t c is
+    by (some given) is =
+        absurd (nothing-speaks given (given-exactly t c given .0 (answered-refused t c given is .answer-is) .0))

@@ -4,7 +4,7 @@ use mathlib.Core.Bool.{Bool, true, false, cond, not}
 use mathlib.Core.Logic.{_↔_, ⊎-elim}
 use mathlib.Core.Option.{none, some}
 use mathlib.Core.Path.{_≡_, refl, ap, sym, subst, _∙_}
-use Prim.Native.Nat.{ℕ, _-_, _≤_, _<_, min}
+use Prim.Native.Nat.{ℕ, _≤_, _<_}
 use native.Mathlib.Omega.{arith}
 use lib.ListN.{length}
 use borrow.Author.Tests.{eq-eqb, ne-eqb, not-false}
@@ -41,6 +41,7 @@ use Rattle.share.proofs.Placed.{weight-within}
 use Rattle.share.proofs.Sound.{says-sound}
 use Rattle.share.proofs.Stepping.{call-refused, call-accepted}
 use Rattle.share.proofs.Totals.{sums-true}
+use Rattle.calls.specs.Rightly.{Rightly}
 use Rattle.calls.proofs.Choosing.{least-deadline, lowest-number}
 
 -- a row that holds a slice is asking, and weighs at least 1
@@ -97,17 +98,6 @@ grant-eleven t is = (
       (le-or-lt 1 (t .head .total)),
   λ empty. ap (λ (r : Reply). number (r .answer)) (grant-refused-empty t is empty),
 )
-
--- what an accepted grant answers: the row is asking, its opening is at most V, no such row has a lesser deadline and none of the same deadline a
--- lower number; the slice is the lesser of the limit and what is left of the request; and the deadline is at most P
-pub record Rightly (t : Table) (queue slice : ℕ) : Type 0 where
-  pub request : Request
-  pub asking : row t queue .state ≡ Asking request
-  pub opening-reached : AtMostV t (request .opening)
-  pub least : (j : ℕ) → eligible t (row t j) ≡ true → deadline (row t queue) ≤ deadline (row t j)
-  pub lowest : (j : ℕ) → eligible t (row t j) ≡ true → deadline (row t j) ≡ deadline (row t queue) → queue ≤ j
-  pub slice-is : slice ≡ min (t .head .terms .limit) (request .length - request .served)
-  pub below-ceiling : deadline (row t queue) ≤ ceiling
 
 eligible-request : (t : Table) (s : State) → eligibleAs (t .head .total) (t .head .sum) s ≡ true → (q : Request) × (s ≡ Asking q) × AtMostV t (q .opening)
 eligible-request t Free e = absurd (clash e refl)

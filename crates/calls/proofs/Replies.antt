@@ -8,13 +8,13 @@ use Rattle.rows.specs.Numbers.{leastTerms}
 use Rattle.rows.specs.Orderly.{limitOutside}
 use Rattle.head.specs.declared.Refusal.{Refusal}
 use Rattle.head.specs.declared.Refusal.the-variants.{LimitOutside}
-use Rattle.head.specs.Answers.{refusalNumber, number, queueGranted, sliceGranted, denominatorGiven}
 use Rattle.head.specs.Refusals.{Check, firstOf, checksFor}
 use Rattle.share.specs.declared.Reply.{Reply}
 use Rattle.share.specs.declared.Table.{Table}
 use Rattle.share.specs.Calls.{call, refused, accepted, freshReply, checksOf, step}
 use Rattle.share.specs.Events.{emptyTable}
 use Rattle.share.proofs.Stepping.{call-refused, call-accepted}
+use Rattle.calls.specs.Public.{HandedBack}
 
 -- a call is refused or done
 pub call-cases : (P : Reply → Type 0) (checks : List Check) (t : Table) (event : Reply) → ((why : Refusal) → firstOf checks ≡ some why → P (refused t why)) → (firstOf checks ≡ none → P event) → P (call checks t event)
@@ -32,14 +32,6 @@ fresh-refused terms e = call-refused _ _ _ _ (rw e refl)
 pub fresh-accepted : (terms : Terms) → limitOutside terms ≡ false → freshReply terms ≡ accepted (emptyTable terms)
 unfolding step checksOf checksFor
 fresh-accepted terms e = call-accepted _ _ _ (rw e refl)
-
--- a call that answers a refusal hands the given table back equal, and its other values are 0
-pub record HandedBack (t : Table) (r : Reply) (why : Refusal) : Type 0 where
-  pub answer-is : number (r .answer) ≡ refusalNumber why
-  pub queue-none : queueGranted (r .answer) ≡ 0
-  pub slice-none : sliceGranted (r .answer) ≡ 0
-  pub denominator-none : denominatorGiven (r .answer) ≡ 0
-  pub table-same : r .table ≡ t
 
 pub refused-handed-back : (checks : List Check) (t : Table) (event : Reply) (why : Refusal) → firstOf checks ≡ some why → HandedBack t (call checks t event) why
 refused-handed-back checks t event why e =

@@ -1,8 +1,11 @@
 -- The public calls on a table, and runs of them.
 use mathlib.Core.List.{List, [], _∷_}
+use mathlib.Core.Path.{_≡_}
 use lib.IntN.{ℤ}
 use Rattle.rows.specs.declared.Terms.{Terms}
 use Rattle.head.specs.declared.Event.{Event}
+use Rattle.head.specs.declared.Refusal.{Refusal}
+use Rattle.head.specs.Answers.{refusalNumber, number, queueGranted, sliceGranted, denominatorGiven}
 use Rattle.head.specs.Refusals.{Check}
 use Rattle.share.specs.declared.Reply.{Reply}
 use Rattle.share.specs.declared.Table.{Table}
@@ -31,6 +34,14 @@ abbrev pub doneOn : Table → Call → Reply
 doneOn t (event e) = doneBy t e
 doneOn t release = accepted (released t)
 doneOn t (report lent) = reportedReply t
+
+-- a call that answers a refusal hands the given table back equal, and its other values are 0
+pub record HandedBack (t : Table) (r : Reply) (why : Refusal) : Type 0 where
+  pub answer-is : number (r .answer) ≡ refusalNumber why
+  pub queue-none : queueGranted (r .answer) ≡ 0
+  pub slice-none : sliceGranted (r .answer) ≡ 0
+  pub denominator-none : denominatorGiven (r .answer) ≡ 0
+  pub table-same : r .table ≡ t
 
 -- the table that a list of calls leaves
 abbrev pub runCalls : Table → List Call → Table
