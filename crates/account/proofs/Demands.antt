@@ -1,15 +1,16 @@
--- The three demands, each sentence above its statement. A statement is about the functions that the contracts of the public calls cite (`joinReply`,
--- `leaveReply` and the others of share's specs/Calls): `step` answers an event by them, `run` goes through a list of events by `step`, `tableAfter`
--- and `accountOf` are the table and the account of such a run. So code, contract, definition and theorem are one chain. The words that the
--- statements use stand in specs/, which is all that a reader has to believe; the proofs stand where each citation says.
-use mathlib.Core.Path.{_≡_}
+-- The three demands, each sentence above its statement. A statement is about the functions that the contracts of the public calls cite (`step`, `releaseReply`
+-- and `lagReply` of share's specs/Calls): `answered` is what a call answers by them, `tableOf` the table that a list of calls leaves from a fresh one, and
+-- `accountOfCalls` its account. So code, contract, definition and theorem are one chain. The words that the statements use stand in specs/, which is all that
+-- a reader has to believe; the proofs stand where each citation says.
 use mathlib.Core.Bool.{true, false}
 use mathlib.Core.List.{List, map}
 use mathlib.Core.Logic.{_≢_, _↔_}
-use mathlib.Core.Option.{none, some}
-use Prim.Native.Nat.{ℕ, _*_, _≤_, _<_}
+use mathlib.Core.Option.{none}
+use mathlib.Core.Path.{_≡_}
+use Prim.Native.Nat.{ℕ, _*_, _≤_, _<_, _+_}
 use lib.IntN.{ℤ, pos}
 use lib.ListN.{length, take}
+use Rattle.rows.specs.declared.Row.{Row}
 use Rattle.rows.specs.declared.Terms.{Terms}
 use Rattle.rows.specs.Numbers.{queues, leastTerms}
 use Rattle.rows.specs.Orderly.{Allowed}
@@ -19,59 +20,79 @@ use Rattle.head.specs.declared.Event.{Event}
 use Rattle.head.specs.declared.Event.the-variants.{Fresh, Grant}
 use Rattle.head.specs.declared.Head.{Head}
 use Rattle.head.specs.declared.Refusal.{Refusal}
-use Rattle.head.specs.Head as Head
+use Rattle.head.specs.declared.Refusal.the-variants.{LimitOutside}
 use Rattle.head.specs.Answers.{refusalNumber, number}
 use Rattle.head.specs.Refusals.{firstOf}
 use Rattle.share.specs.declared.Table.{Table}
-use Rattle.share.specs.Table.{row, AtMostV, TrueSums}
-use Rattle.share.specs.Sound.{Sound}
-use Rattle.share.specs.Release.{Frees, released}
+use Rattle.share.specs.Calls.{refused, accepted, checksOf, grantReply, lagReply, lagList, releaseReply, freshReply}
 use Rattle.share.specs.Choice.{eligible, deadline, Chosen}
 use Rattle.share.specs.Events.{emptyTable}
-use Rattle.share.specs.Calls.{step, checksOf, doneBy, grantReply, lagReply, lagList}
-use Rattle.share.specs.Runs.{run}
+use Rattle.share.specs.Release.{Frees, released, freed}
+use Rattle.share.specs.Sound.{Sound}
+use Rattle.share.specs.Table.{row, AtMostV, TrueSums}
+use Rattle.calls.specs.Against.{AllFree, NoneLower, Against, LimitWrong, OnTable}
+use Rattle.calls.specs.Public.{HandedBack, tableOf, Call, answered, doneOn}
+use Rattle.calls.specs.Rightly.{Rightly}
+use Rattle.fractions.specs.Fraction.{nothing, _~_, total}
+use Rattle.fractions.specs.Signed.{summed}
+use Rattle.account.specs.Account.{present, Queue, Account, entry, owedTo, weightLeft, noOne}
+use Rattle.account.specs.Agrees.{Agrees}
+use Rattle.account.specs.Books.{Books}
+use Rattle.account.specs.Bound.{tooLow}
+use Rattle.account.specs.Clock.{Steady}
+use Rattle.account.specs.Counted.{accountOf, tableAfter, changes, accountOfCalls}
+use Rattle.account.specs.Departures.{CountedOnce, freedTwice, sevenLines, eightLines}
+use Rattle.account.specs.Longest.{longestSeen}
+use Rattle.account.specs.Named.{names, Stays, namedBy}
+use Rattle.account.specs.Report.{virtualTime, reported}
+use Rattle.account.specs.Same.{Same}
+use Rattle.head.specs.Head as Head
 use Rattle.head.proofs.Entry as Entry
 use Rattle.share.proofs.Release as Release
 use Rattle.calls.proofs.Answering as Answering
-use Rattle.calls.proofs.Applying.{Applies}
+use Rattle.calls.proofs.Calling as Calling
+use Rattle.calls.proofs.Given as Given
+use Rattle.calls.proofs.OneDeparture as OneDeparture
 use Rattle.calls.proofs.Choosing as Choosing
 use Rattle.calls.proofs.Exactly as Exactly
 use Rattle.calls.proofs.Granting as Granting
-use Rattle.calls.proofs.Granting.{Rightly}
-use Rattle.calls.proofs.Replies.{HandedBack}
 use Rattle.calls.proofs.Soundness as Soundness
-use Rattle.fractions.specs.Signed.{summed}
-use Rattle.fractions.specs.Fraction.{nothing, _~_, total}
-use Rattle.account.specs.Account.{present, Queue, Account, entry, owedTo, weightLeft}
-use Rattle.account.specs.Bound.{tooLow}
-use Rattle.account.specs.Departures.{CountedOnce, freedTwice, sevenLines, eightLines}
-use Rattle.account.specs.Longest.{longestSeen}
-use Rattle.account.specs.Named.{names, Stays}
-use Rattle.account.specs.Report.{virtualTime, reported}
-use Rattle.account.specs.Counted.{accountOf, tableAfter}
+use Rattle.account.proofs.Called as Called
 use Rattle.account.proofs.Theorems as Theorems
 use Rattle.account.proofs.Departures as Departures
 use Rattle.account.proofs.Twice as Twice
 use Rattle.account.proofs.Frames as Frames
 
 -- 1. "Every call accepts any table and any numbers, and ends." (No public call has a `requires`, and the checker proves that each returns: that is no
--- statement about definitions.) "What is not allowed is refused by its number,"
-pub refused-by-its-number : (t : Table) (e : Event) (why : Refusal) → firstOf (checksOf t e) ≡ some why → HandedBack t (step t e) why
-refused-by-its-number = Answering.step-refused
+-- statement about definitions.) "What is not allowed is refused by its number," the fields that a call does not speak of are 0,
+pub refused-by-its-number : (t : Table) (c : Call) (why : Refusal) → number (answered t c .answer) ≡ refusalNumber why → HandedBack t (answered t c) why
+refused-by-its-number = Given.refused-by
 
-pub allowed-is-done : (t : Table) (e : Event) → firstOf (checksOf t e) ≡ none → step t e ≡ doneBy t e
-allowed-is-done = Answering.step-done
+-- each number exactly when document 01's words hold (`Against`, call by call) and none of a lower number does: "in the fixed order;"
+pub given-exactly-when : (t : Table) (c : Call) (why : Refusal) → (number (answered t c .answer) ≡ refusalNumber why) ↔ (Against t c why × NoneLower t c why)
+given-exactly-when = Given.given-exactly
 
--- "in the fixed order;"
-pub lowest-number-answers : (t : Table) (e : Event) (why other : Refusal) → firstOf (checksOf t e) ≡ some why → Applies other (checksOf t e) → refusalNumber why ≤ refusalNumber other
-lowest-number-answers = Answering.step-lowest
+-- 1 exactly when the table isn't sound
+pub one-exactly-when-not-sound : (t : Table) (c : Call) → OnTable c → (number (answered t c .answer) ≡ 1) ↔ (Sound t → ⊥)
+one-exactly-when-not-sound = Given.one-exactly
+
+-- and what no words speak against is done
+pub allowed-is-done : (t : Table) (c : Call) → ((why : Refusal) → Against t c why → ⊥) → answered t c ≡ doneOn t c
+allowed-is-done = Given.done-where-nothing
 
 -- "the table comes back as given"
-pub refused-hands-the-table-back : (t : Table) (e : Event) → number (step t e .answer) ≢ 0 → step t e .table ≡ t
-refused-hands-the-table-back = Answering.refused-table
+pub refused-hands-the-table-back : (t : Table) (c : Call) → number (answered t c .answer) ≢ 0 → answered t c .table ≡ t
+refused-hands-the-table-back = Calling.refused-table
 
 pub report-hands-the-table-back : (t : Table) (lent : List ℤ) → lagReply t lent .table ≡ t
 report-hands-the-table-back = Answering.report-table
+
+pub release-hands-the-table-back : (t : Table) → Sound t → releaseReply t ≡ accepted t
+release-hands-the-table-back = Calling.release-sound
+
+-- (refused, `fresh` has none to hand back and gives the empty table of slice limit 1)
+pub refused-fresh-is-empty : (terms : Terms) → LimitWrong terms → freshReply terms ≡ refused (emptyTable leastTerms) LimitOutside
+refused-fresh-is-empty = Given.fresh-wrong
 
 -- "and a lent list stays untouched."
 pub refused-leaves-the-list : (t : Table) (lent : List ℤ) → number (lagReply t lent .answer) ≢ 0 → lagList t lent ≡ lent
@@ -85,11 +106,11 @@ pub only-one-is-chosen : (t : Table) (i j : ℕ) → Chosen t i → Chosen t j �
 only-one-is-chosen = Choosing.chosen-only
 
 -- "and table that the EEVDF rules give,"
-pub tables-stay-sound : (t : Table) (e : Event) → Sound t → Sound (step t e .table)
-tables-stay-sound = Soundness.step-keeps
+pub tables-stay-sound : (t : Table) (c : Call) → Sound t → Sound (answered t c .table)
+tables-stay-sound = Calling.answered-keeps
 
-pub runs-are-sound : (terms : Terms) → Allowed terms → (calls : List Event) → Sound (run (emptyTable terms) calls)
-runs-are-sound = Soundness.run-sound
+pub runs-are-sound : (terms : Terms) → Allowed terms → (cs : List Call) → Sound (tableOf terms cs)
+runs-are-sound = Called.calls-sound
 
 -- "with our rules for rounding,"
 pub enters-not-below-V : (h : Head) → 0 < h .total → h .sum ≤ Head.entry h * h .total
@@ -106,16 +127,40 @@ ties-to-the-lower = Choosing.lowest-number
 pub released-in-any-order : {t u v : Table} → TrueSums t → Frees t u → Frees t v → u ≡ v
 released-in-any-order = Release.same-end
 
+pub released-is-that-table : {t u : Table} → TrueSums t → Frees t u → u ≡ released t
+released-is-that-table = Release.frees-released
+
 pub released-when-reached : (t : Table) (j : ℕ) → isGoing (row t j .state) ≡ true → (isFree (row (released t) j .state) ≡ true) ↔ AtMostV (released t) (row t j .position)
 released-when-reached = Exactly.released-exactly
+
+-- (freeing a row moves V by its lag over the weight that is left, equation 14, once: V' = V + lag / (W - w), crosswise)
+pub freeing-is-equation-14 : (t : Table) (i : ℕ) → TrueSums t → i < length (t .rows) → isFree (row t i .state) ≡ false → let r : Row = row t i in freed t i .head .sum * t .head .total + r .weight * (t .head .total * r .position) ≡ t .head .sum * freed t i .head .total + r .weight * t .head .sum
+freeing-is-equation-14 = OneDeparture.departure-once
 
 -- "A grant on a sound table is refused for want of a queue exactly when the table is empty."
 pub eleven-exactly-when-empty : (t : Table) → Sound t → (number (grantReply t .answer) ≡ 11) ↔ (t .head .total ≡ 0)
 eleven-exactly-when-empty = Granting.grant-eleven
 
+pub empty-is-every-row-free : (t : Table) → Sound t → (t .head .total ≡ 0) ↔ AllFree t
+empty-is-every-row-free = Given.empty-free
+
 -- 3. "Over any run of calls from a fresh table, each queue's reported lag equals its account worked out afresh from the run;"
-pub reported-lag-is-account : (terms : Terms) → Allowed terms → (calls : List Event) (lent : List ℤ) → queues ≤ length lent → (i : ℕ) → i < queues → reported (tableAfter terms calls) lent i ~ owedTo (entry (accountOf terms calls) i)
-reported-lag-is-account terms is-allowed calls lent long = Theorems.report-is-account terms is-allowed calls lent long
+pub reported-lag-is-account : (terms : Terms) → Allowed terms → (cs : List Call) (lent : List ℤ) → queues ≤ length lent → (i : ℕ) → i < queues → reported (tableOf terms cs) lent i ~ owedTo (entry (accountOfCalls terms cs) i)
+reported-lag-is-account terms is-allowed cs lent long = Called.report-is-account terms is-allowed cs lent long
+
+-- (the two agree on who is free, going and asking, and on the weights; the account's V is A / W, and never falls while the table is not empty)
+pub account-and-table-agree : (terms : Terms) → Allowed terms → (cs : List Call) (i : ℕ) → Agrees (row (tableOf terms cs) i) (entry (accountOfCalls terms cs) i)
+account-and-table-agree = Called.agree
+
+pub account-has-the-tables-V : (terms : Terms) → Allowed terms → (cs : List Call) → 0 < tableOf terms cs .head .total → accountOfCalls terms cs .virtual ~ virtualTime (tableOf terms cs)
+account-has-the-tables-V = Called.same-V
+
+pub V-never-falls : (terms : Terms) (calls : List Event) → Steady (noOne terms) (changes terms calls)
+V-never-falls = Theorems.V-steady
+
+-- (and the account is the same in whatever order it frees rows)
+pub account-in-any-order : (terms : Terms) (calls : List Event) (a : Account) → Books (noOne terms) (changes terms calls) a → Same a (accountOf terms calls)
+account-in-any-order = Theorems.any-order
 
 -- "each departure counts once;"
 pub departure-counts-once : (a : Account) (i : ℕ) → i < length (a .entries) → 0 < weightLeft a i → CountedOnce a i
@@ -128,8 +173,8 @@ pub counted-twice-it-differs : freedTwice (accountOf leastTerms sevenLines) 1 .v
 counted-twice-it-differs = Twice.twice-differs
 
 -- "the lags add up to nothing;"
-pub reported-lags-add-up-to-nothing : (terms : Terms) → Allowed terms → (calls : List Event) (lent : List ℤ) → queues ≤ length lent → summed (take queues (lagList (tableAfter terms calls) lent)) ≡ pos 0
-reported-lags-add-up-to-nothing terms is-allowed calls lent long = Theorems.report-level terms is-allowed calls lent long
+pub reported-lags-add-up-to-nothing : (terms : Terms) → Allowed terms → (cs : List Call) (lent : List ℤ) → queues ≤ length lent → summed (take queues (lagList (tableOf terms cs) lent)) ≡ pos 0
+reported-lags-add-up-to-nothing terms is-allowed cs lent long = Called.report-level terms is-allowed cs lent long
 
 pub accounts-add-up-to-nothing : (terms : Terms) (calls : List Event) → total (map owedTo (accountOf terms calls .entries)) ~ nothing
 accounts-add-up-to-nothing = Theorems.accounts-level
@@ -142,8 +187,8 @@ pub longest-is-the-longest-seen : (terms : Terms) (calls : List Event) (i : ℕ)
 longest-is-the-longest-seen = Theorems.longest-seen
 
 -- "an event alters only the rows that it names or releases."
-pub event-alters-only : (t : Table) (e : Event) (i : ℕ) → names e i ≡ false → Stays (row t i) (row (step t e .table) i)
-event-alters-only = Frames.alters-only
+pub event-alters-only : (t : Table) (c : Call) (i : ℕ) → namedBy c i ≡ false → Stays (row t i) (row (answered t c .table) i)
+event-alters-only = Called.alters-only
 
 pub event-names-one-row : (e : Event) → ((terms : Terms) → e ≢ Fresh terms) → (i j : ℕ) → names e i ≡ true → names e j ≡ true → i ≡ j
 event-names-one-row = Frames.names-one

@@ -15,4 +15,5 @@ pub mod Orders
 pub mod Longest
 pub mod Frames
 pub mod Theorems
+pub mod Called
 pub mod Demands

@@ -9,6 +9,7 @@ use Rattle.share.specs.declared.Table.{Table}
 use Rattle.share.specs.Calls.{step}
 use Rattle.share.specs.Events.{emptyTable}
 use Rattle.share.specs.Runs.{run}
+use Rattle.calls.specs.Public.{Call, eventsOf}
 use Rattle.account.specs.Account.{Account, noOne}
 use Rattle.account.specs.Books.{accountFrom}
 use Rattle.account.specs.Changes.{Change, changesOf}
@@ -29,3 +30,7 @@ accountOf terms calls = accountFrom (noOne terms) (changes terms calls)
 
 unfoldable pub tableAfter : Terms → List Event → Table
 tableAfter terms calls = run (emptyTable terms) calls
+
+-- of a run of calls: a release and a lag report change no account
+abbrev pub accountOfCalls : Terms → List Call → Account
+accountOfCalls terms cs = accountOf terms (eventsOf cs)

@@ -15,7 +15,7 @@ use Rattle.rows.specs.declared.Row.{Row}
 use Rattle.rows.specs.declared.State.{State}
 use Rattle.rows.specs.declared.State.the-variants.{Free, Going, Asking}
 use Rattle.rows.specs.declared.Terms.{Terms}
-use Rattle.rows.specs.Numbers.{maxWeight, maxLimit, ceiling}
+use Rattle.rows.specs.Numbers.{maxWeight, maxLimit, ceiling, leastTerms}
 use Rattle.rows.specs.Order.{bid, bidAs, bidOf}
 use Rattle.rows.specs.Orderly.{OrderlyAs, limitOutside, fitsCeiling}
 use Rattle.rows.specs.Row.{blank, isFree, weightIn}
@@ -30,20 +30,21 @@ use Rattle.head.specs.Answers.{refusalNumber, number}
 use Rattle.head.specs.Refusals.{Check, _when_, checksFor, rowTaken, notAsking, ticksOutside, ceilingPassed, passedAs, firstOf}
 use Rattle.share.specs.declared.Reply.{Reply}
 use Rattle.share.specs.declared.Table.{Table}
-use Rattle.share.specs.Calls.{checksOf, releaseChecks, lagChecks}
+use Rattle.share.specs.Calls.{refused, checksOf, releaseChecks, lagChecks, freshReply}
 use Rattle.share.specs.Choice.{eligible, deadline, choice}
-use Rattle.share.specs.Events.{chosenOr0, chosen}
+use Rattle.share.specs.Events.{chosenOr0, chosen, emptyTable}
 use Rattle.share.specs.Sound.{Sound, Orderly, sound}
 use Rattle.share.specs.Table.{row, trueTotal}
 use Rattle.share.proofs.Mean.{chosen-rightly}
 use Rattle.share.proofs.Placed.{weight-within}
 use Rattle.share.proofs.Sound.{row-past, sound-says, says-sound}
 use Rattle.share.proofs.Totals.{sums-true}
-use Rattle.calls.specs.Against.{AllFree, Against, fresh-14, join-1, join-2, join-3, join-4, join-5, join-7, leave-1, leave-2, leave-5, leave-8, reweight-1, reweight-2, reweight-3, reweight-4, reweight-5, reweight-8, reweight-9, length-1, length-2, length-4, length-5, length-8, grant-1, grant-5, grant-11, grant-12, return-1, return-2, return-6, return-10, release-1, report-1, report-13, PastCeiling, NotSound, OnTable, NoneLower}
+use Rattle.calls.specs.Against.{AllFree, Against, fresh-14, join-1, join-2, join-3, join-4, join-5, join-7, leave-1, leave-2, leave-5, leave-8, reweight-1, reweight-2, reweight-3, reweight-4, reweight-5, reweight-8, reweight-9, length-1, length-2, length-4, length-5, length-8, grant-1, grant-5, grant-11, grant-12, return-1, return-2, return-6, return-10, release-1, report-1, report-13, PastCeiling, NotSound, OnTable, NoneLower, LimitWrong}
 use Rattle.calls.specs.Public.{HandedBack, doneOn, Call, event, release, report, checksOn, answered}
 use Rattle.calls.proofs.Applying.{none-applies, Applies, here, later, queue-outside, length-outside, unsound-says, not-holder-says, lag-below-says, empty-says, first-applies, applies-given, first-lowest, lowest-first}
 use Rattle.calls.proofs.Calling.{answered-done, answered-refused, on-ordered, done-number}
 use Rattle.calls.proofs.Choosing.{chosen-choice}
+use Rattle.calls.proofs.Replies.{fresh-refused}
 
 -- a refusal is known by its number, and no number is 0
 abbrev refusalOf : ℕ → Refusal
@@ -361,3 +362,8 @@ done-where-nothing t c nothing-speaks = by (firstOf (checksOn t c)) refl
     by none is = answered-done t c is
     by (some given) is =
         absurd (nothing-speaks given (given-exactly t c given .0 (answered-refused t c given is .answer-is) .0))
+
+-- refused, `fresh` has no table to hand back
+pub fresh-wrong : (terms : Terms) → LimitWrong terms → freshReply terms ≡ refused (emptyTable leastTerms) LimitOutside
+unfolding limitOutside
+fresh-wrong terms h = fresh-refused terms (says-outside 1 maxLimit (terms .limit) h)
