@@ -10,3 +10,4 @@ pub mod Granting
 pub mod OneDeparture
 pub mod Exactly
 pub mod Equations
+pub mod Meaning

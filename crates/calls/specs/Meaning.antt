@@ -1,0 +1,58 @@
+-- Document 01, "The events": what an accepted event makes of a table, said of the table before (t) and the table after (u) and not by the function that
+-- carries the event out.
+use mathlib.Core.Path.{_≡_}
+use mathlib.Core.Bool.{true}
+use mathlib.Core.Logic.{_≢_}
+use Prim.Native.Nat.{ℕ}
+use Rattle.rows.specs.declared.Request.{Request}
+use Rattle.rows.specs.declared.Row.{Row}
+use Rattle.rows.specs.declared.State.the-variants.{Asking}
+use Rattle.share.specs.declared.Table.{Table}
+use Rattle.share.specs.Events.{meant}
+use Rattle.share.specs.Table.{row}
+
+-- "An asking row holds its weight, its position and its open request: opening position, length, ticks served, and the length for its next request."
+pub record AsksWith (r : Row) (weight position opening length served next : ℕ) : Type 0 where
+  pub weight-is : r .weight ≡ weight
+  pub position-is : r .position ≡ position
+  pub request-is : r .state ≡ Asking (record { opening = opening; length = length; served = served; next = next })
+
+-- "total weight W of all rows not free; the sum A of weight x position over them": both as they were
+pub record SameSums (t u : Table) : Type 0 where
+  pub total-same : u .head .total ≡ t .head .total
+  pub sum-same : u .head .sum ≡ t .head .sum
+
+-- "the slice that is out, if any, with its holder and its ticks": as it was
+pub record SameSlice (t u : Table) : Type 0 where
+  pub out-same : u .head .out ≡ t .head .out
+  pub holder-same : u .head .holder ≡ t .head .holder
+  pub ticks-same : u .head .ticks ≡ t .head .ticks
+
+-- "Length."
+pub record LengthMeans (t u : Table) (queue length : ℕ) : Type 0 where
+  -- the row was asking (refusal 8)
+  pub request : Request
+  pub asked : row t queue .state ≡ Asking request
+  -- "Sets the length of the next request. The open one stays."
+  pub asks : AsksWith (row u queue) (row t queue .weight) (row t queue .position) (request .opening) (request .length) (request .served) (meant t length)
+  -- W and A stay, since no position moves
+  pub sums : SameSums t u
+  -- no slice comes or goes
+  pub slice : SameSlice t u
+  -- "Slice limit 1 to 100 ticks, fixed when a table is made."
+  pub terms-same : u .head .terms ≡ t .head .terms
+  -- an event alters only the row that it names
+  pub others-same : (i : ℕ) → i ≢ queue → row u i ≡ row t i
+
+-- "Grant. ... The answer is the number and the slice."
+pub record GrantMeans (t u : Table) (queue slice : ℕ) : Type 0 where
+  -- no row is altered
+  pub rows-same : u .rows ≡ t .rows
+  -- nor are W and A
+  pub sums : SameSums t u
+  -- "fixed when a table is made"
+  pub terms-same : u .head .terms ≡ t .head .terms
+  -- "the slice that is out, ... with its holder and its ticks"
+  pub out : u .head .out ≡ true
+  pub holder-is : u .head .holder ≡ queue
+  pub ticks-is : u .head .ticks ≡ slice
