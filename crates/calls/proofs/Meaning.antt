@@ -2,7 +2,9 @@
 use mathlib.Core.Bool.{Bool, true, false, cond}
 use mathlib.Core.Option.{Option, none, some}
 use mathlib.Core.Path.{_≡_, refl, ap, sym, subst, subst⁻¹, _∙_}
-use Prim.Native.Nat.{ℕ, _*_, _<_}
+use mathlib.Core.Logic.{_⊎_, ⊎-elim}
+use Prim.Native.Nat.{ℕ, _+_, _*_, _≤_, _<_}
+use native.Mathlib.Decide.{ℕ-discrete}
 use native.Mathlib.Omega.{arith}
 use lib.ListN.{length}
 use Rattle.laws.proofs.Tests.{clash}
@@ -10,26 +12,32 @@ use Rattle.rows.specs.declared.Request.{Request}
 use Rattle.rows.specs.declared.Row.{Row}
 use Rattle.rows.specs.declared.State.{State}
 use Rattle.rows.specs.declared.State.the-variants.{Free, Going, Asking}
-use Rattle.rows.specs.Requests.{nextSet, rowNextSet}
-use Rattle.rows.specs.Row.{isFree, isAsking, weightIn, momentIn}
+use Rattle.rows.specs.Requests.{opened, entering, nextSet, rowNextSet, servedTo, served, charged}
+use Rattle.rows.specs.Row.{isFree, isGoing, isAsking, weightIn, momentIn, chargedTo}
+use Rattle.rows.proofs.Requests.{served-early, served-up, served-on}
 use Rattle.head.specs.declared.Answer.{Answer}
 use Rattle.head.specs.declared.Answer.the-variants.{Granted}
 use Rattle.head.specs.declared.Event.{Event}
-use Rattle.head.specs.declared.Event.the-variants.{Length, Grant}
+use Rattle.head.specs.declared.Event.the-variants.{Join, Length, Grant, Return}
 use Rattle.head.specs.declared.Refusal.{Refusal}
 use Rattle.head.specs.declared.Refusal.the-variants.{Unsound, QueueOutside, WeightOutside, LengthOutside, SliceOut, NotHolder, RowTaken, NotAsking, LagBelow, TicksOutside, TableEmpty, CeilingPassed, ListShort, LimitOutside}
 use Rattle.head.specs.Answers.{refusalNumber, number}
-use Rattle.head.specs.Head.{sliced, summed}
+use Rattle.head.specs.Head.{entry, sliced, summed}
 use Rattle.head.specs.Refusals.{firstOf}
+use Rattle.head.proofs.Entry.{entry-empty, entry-not-below, entry-least}
 use Rattle.share.specs.declared.Reply.{Reply}
 use Rattle.share.specs.declared.Table.{Table}
-use Rattle.share.specs.Asks.{Lengthens}
+use Rattle.share.specs.Asks.{Joins, Lengthens, Returns}
 use Rattle.share.specs.Calls.{step, checksOf}
-use Rattle.share.specs.Events.{meant, lengthSet, chosen, sliceGiven, granted}
+use Rattle.share.specs.Events.{meant, joined, lengthSet, chosen, sliceGiven, granted, returned}
+use Rattle.share.specs.Release.{freed, Frees, done, one, released}
+use Rattle.share.specs.Sound.{Ready}
 use Rattle.share.specs.Table.{row, placed, withSlice}
-use Rattle.share.proofs.Accepted.{length-accepted}
+use Rattle.share.proofs.Accepted.{join-accepted, length-accepted, return-accepted}
+use Rattle.share.proofs.Charges.{holding, return-asks}
 use Rattle.share.proofs.Placed.{placed-same, placed-other}
-use Rattle.calls.specs.Meaning.{AsksWith, SameSums, SameSlice, LengthMeans, GrantMeans}
+use Rattle.share.proofs.Release.{freed-other, released-frees}
+use Rattle.calls.specs.Meaning.{AsksWith, SameSums, SameSlice, LengthMeans, GrantMeans, ReturnMeans, JoinMeans}
 use Rattle.calls.proofs.Answering.{step-done, step-refused}
 use Rattle.calls.proofs.Granting.{Rightly, grant-rightly}
 use Rattle.calls.proofs.SameSums.{placed-total, placed-sum}
@@ -134,3 +142,117 @@ grant-means t queue slice is =
       subst⁻¹ (λ (r : Reply). GrantMeans t (r .table) queue slice) done
           (subst (λ (i : ℕ). GrantMeans t (granted t) i slice) q (subst (GrantMeans t (granted t) (chosen t)) s (granted-means t))),
     )
+
+-- a release frees going rows only: every other row stays
+freed-leaves : (t : Table) (i j : ℕ) → Ready t i → isGoing (row t j .state) ≡ false → Dec (j ≡ i) → row (freed t i) j ≡ row t j
+freed-leaves t i j r stays (yes e) = absurd (clash (subst⁻¹ (λ (k : ℕ). isGoing (row t k .state) ≡ true) e (r .going)) stays)
+freed-leaves t i j r stays (no apart) = freed-other t i j apart
+
+pub frees-leaves : {t u : Table} (j : ℕ) → Frees t u → isGoing (row t j .state) ≡ false → row u j ≡ row t j
+frees-leaves j (done calm) stays = refl
+frees-leaves {t} j (one i r rest) stays =
+    let same = freed-leaves t i j r stays (ℕ-discrete j i) in
+    frees-leaves j rest (subst⁻¹ (λ (x : Row). isGoing (x .state) ≡ false) same stays) ∙ same
+
+-- and it changes neither the slice nor the terms
+frees-slice : {t u : Table} → Frees t u → SameSlice t u
+unfolding freed placed summed
+frees-slice (done calm) = record { out-same = refl; holder-same = refl; ticks-same = refl }
+frees-slice (one i r rest) = let s = frees-slice rest in record { out-same = s .out-same; holder-same = s .holder-same; ticks-same = s .ticks-same }
+
+frees-terms : {t u : Table} → Frees t u → u .head .terms ≡ t .head .terms
+unfolding freed placed summed
+frees-terms (done calm) = refl
+frees-terms (one i r rest) = frees-terms rest
+
+-- a row put in place, and the release after it
+module _ (t : Table) (queue : ℕ) (r : Row) where
+  put-row : queue < length (t .rows) → isGoing (r .state) ≡ false → row (released (placed t queue r)) queue ≡ r
+  put-row inside stays =
+      let same = placed-same t queue r inside in
+      frees-leaves queue (released-frees (placed t queue r)) (subst⁻¹ (λ (x : Row). isGoing (x .state) ≡ false) same stays) ∙ same
+
+  put-slice : SameSlice t (released (placed t queue r))
+  unfolding placed summed
+  put-slice = let s = frees-slice (released-frees (placed t queue r)) in record { out-same = s .out-same; holder-same = s .holder-same; ticks-same = s .ticks-same }
+
+  put-terms : released (placed t queue r) .head .terms ≡ t .head .terms
+  unfolding placed summed
+  put-terms = frees-terms (released-frees (placed t queue r))
+
+-- Return.
+module _ (r : Row) (q : Request) (used : ℕ) (early : Bool) (asked : r .state ≡ Asking q) where
+  charged-ended : (early ≡ true) ⊎ (q .length ≤ q .served + used) → AsksWith (charged r used early) (r .weight) (chargedTo (r .weight) (r .position) used) (chargedTo (r .weight) (r .position) used) (q .next) 0 (q .next)
+  unfolding charged opened
+  charged-ended ends =
+      let p = chargedTo (r .weight) (r .position) used in
+      let opens : opened p (q .next) ≡ servedTo q p used early = ⊎-elim (λ e. served-early q p used early e) (λ l. served-up q p used early l) ends in
+      record { weight-is = refl; position-is = refl; request-is = ap (λ (s : State). served s p used early) asked ∙ ap Asking (sym opens) }
+
+  charged-on : early ≡ false → q .served + used < q .length → AsksWith (charged r used early) (r .weight) (chargedTo (r .weight) (r .position) used) (q .opening) (q .length) (q .served + used) (q .next)
+  unfolding charged
+  charged-on e l =
+      let p = chargedTo (r .weight) (r .position) used in
+      record { weight-is = refl; position-is = refl; request-is = ap (λ (s : State). served s p used early) asked ∙ ap Asking (sym (served-on q p used early e l)) }
+
+module _ (t : Table) (queue used : ℕ) (early : Bool) where
+  taken-means : Returns t queue used → ReturnMeans t (returned t queue used early) queue used early
+  unfolding returned withSlice sliced chargedTo
+  taken-means r =
+      let held = holding t queue used r in
+      let q : Request = held .request in
+      let old : Row = row t queue in
+      let new : Row = charged old used early in
+      let before : Table = withSlice t false 0 0 in
+      let inside : queue < length (t .rows) = omega (arith, r .inside, r .was-sound .orderly-table .one-each) in
+      let is : row (released (placed before queue new)) queue ≡ new = put-row before queue new inside (return-asks t queue used r early) in
+      let slice = put-slice before queue new in
+      record {
+        request = q;
+        asked = held .is-asking;
+        position = chargedTo (old .weight) (old .position) used;
+        rises = refl;
+        next-opens = λ ends. subst⁻¹ (λ (x : Row). AsksWith x (old .weight) (chargedTo (old .weight) (old .position) used) (chargedTo (old .weight) (old .position) used) (q .next) 0 (q .next)) is (charged-ended old q used early (held .is-asking) ends);
+        stays-open = λ e l. subst⁻¹ (λ (x : Row). AsksWith x (old .weight) (chargedTo (old .weight) (old .position) used) (q .opening) (q .length) (q .served + used) (q .next)) is (charged-on old q used early (held .is-asking) e l);
+        in-again = slice .out-same;
+        holder-none = slice .holder-same;
+        ticks-none = slice .ticks-same;
+        terms-same = put-terms before queue new;
+      }
+
+  pub return-means : number (step t (Return queue used early) .answer) ≡ 0 → ReturnMeans t (step t (Return queue used early) .table) queue used early
+  return-means fine =
+      let e = accepted-none t (Return queue used early) fine in
+      subst⁻¹ (λ (r : Reply). ReturnMeans t (r .table) queue used early) (step-done t (Return queue used early) e) (taken-means (return-accepted t queue used early e))
+
+-- Join.
+entering-asks : (weight position length : ℕ) → AsksWith (entering weight position length) weight position position length 0 length
+unfolding entering opened
+entering-asks weight position length = record { weight-is = refl; position-is = refl; request-is = refl }
+
+entering-stays : (weight position length : ℕ) → isGoing (entering weight position length .state) ≡ false
+unfolding entering
+entering-stays weight position length = refl
+
+module _ (t : Table) (queue weight length : ℕ) where
+  joined-means : Joins t queue weight length → JoinMeans t (joined t queue weight length) queue weight length
+  unfolding joined
+  joined-means j =
+      let at : ℕ = entry (t .head) in
+      let new : Row = entering weight at (meant t length) in
+      let inside : queue < lib.ListN.length (t .rows) = omega (arith, j .inside, j .was-sound .orderly-table .one-each) in
+      record {
+        was-free = j .free;
+        position = at;
+        not-below = λ present. entry-not-below (t .head) present;
+        least = λ present c l. entry-least (t .head) present c l;
+        into-empty = λ empty. entry-empty (t .head) empty;
+        asks = subst⁻¹ (λ (x : Row). AsksWith x weight at at (meant t length) 0 (meant t length)) (put-row t queue new inside (entering-stays weight at (meant t length))) (entering-asks weight at (meant t length));
+        slice = put-slice t queue new;
+        terms-same = put-terms t queue new;
+      }
+
+  pub join-means : number (step t (Join queue weight length) .answer) ≡ 0 → JoinMeans t (step t (Join queue weight length) .table) queue weight length
+  join-means fine =
+      let e = accepted-none t (Join queue weight length) fine in
+      subst⁻¹ (λ (r : Reply). JoinMeans t (r .table) queue weight length) (step-done t (Join queue weight length) e) (joined-means (join-accepted t queue weight length e))

@@ -1,12 +1,14 @@
 -- Document 01, "The events": what an accepted event makes of a table, said of the table before (t) and the table after (u) and not by the function that
 -- carries the event out.
 use mathlib.Core.Path.{_≡_}
-use mathlib.Core.Bool.{true}
-use mathlib.Core.Logic.{_≢_}
-use Prim.Native.Nat.{ℕ}
+use mathlib.Core.Bool.{Bool, true, false}
+use mathlib.Core.Logic.{_⊎_, _≢_}
+use Prim.Native.Nat.{ℕ, _+_, _*_, _≤_, _<_}
 use Rattle.rows.specs.declared.Request.{Request}
 use Rattle.rows.specs.declared.Row.{Row}
 use Rattle.rows.specs.declared.State.the-variants.{Asking}
+use Rattle.rows.specs.Numbers.{stepOf}
+use Rattle.rows.specs.Row.{isFree}
 use Rattle.share.specs.declared.Table.{Table}
 use Rattle.share.specs.Events.{meant}
 use Rattle.share.specs.Table.{row}
@@ -56,3 +58,39 @@ pub record GrantMeans (t u : Table) (queue slice : ℕ) : Type 0 where
   pub out : u .head .out ≡ true
   pub holder-is : u .head .holder ≡ queue
   pub ticks-is : u .head .ticks ≡ slice
+
+-- "Return. Names the holder, the ticks used (0 to the slice) and whether the request ended early."
+pub record ReturnMeans (t u : Table) (queue used : ℕ) (early : Bool) : Type 0 where
+  -- the holder was asking
+  pub request : Request
+  pub asked : row t queue .state ≡ Asking request
+  -- "Position rises by used x step."
+  pub position : ℕ
+  pub rises : position ≡ row t queue .position + used * stepOf (row t queue .weight)
+  -- "If the request is used up or ended early, the next opens at the new position (equations 11 and 12)."
+  pub next-opens : (early ≡ true) ⊎ (request .length ≤ request .served + used) → AsksWith (row u queue) (row t queue .weight) position position (request .next) 0 (request .next)
+  -- else it stays open, with the ticks used served
+  pub stays-open : early ≡ false → request .served + used < request .length → AsksWith (row u queue) (row t queue .weight) position (request .opening) (request .length) (request .served + used) (request .next)
+  -- "The slice is no longer out." "With no slice out, holder and ticks are zero."
+  pub in-again : u .head .out ≡ false
+  pub holder-none : u .head .holder ≡ 0
+  pub ticks-none : u .head .ticks ≡ 0
+  -- "fixed when a table is made"
+  pub terms-same : u .head .terms ≡ t .head .terms
+
+-- "Join."
+pub record JoinMeans (t u : Table) (queue weight length : ℕ) : Type 0 where
+  -- the row was free (refusal 7)
+  pub was-free : isFree (row t queue .state) ≡ true
+  -- "The queue enters at the least whole number not below V": V is A / W, so the number x W is not below A, and of such numbers it is the least
+  pub position : ℕ
+  pub not-below : 0 < t .head .total → t .head .sum ≤ position * t .head .total
+  pub least : 0 < t .head .total → (c : ℕ) → t .head .sum ≤ c * t .head .total → position ≤ c
+  -- "or at 0 if the table is empty"
+  pub into-empty : t .head .total ≡ 0 → position ≡ 0
+  -- "and opens its first request; the length given also holds for its later ones until a length event"
+  pub asks : AsksWith (row u queue) weight position position (meant t length) 0 (meant t length)
+  -- no slice comes or goes
+  pub slice : SameSlice t u
+  -- "fixed when a table is made"
+  pub terms-same : u .head .terms ≡ t .head .terms
