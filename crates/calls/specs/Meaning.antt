@@ -2,16 +2,20 @@
 -- carries the event out.
 use mathlib.Core.Path.{_≡_}
 use mathlib.Core.Bool.{Bool, true, false}
-use mathlib.Core.Logic.{_⊎_, _≢_}
+use mathlib.Core.Logic.{_⊎_, _↔_, _≢_}
 use Prim.Native.Nat.{ℕ, _+_, _*_, _≤_, _<_}
+use lib.IntN.{ℤ, pos}
 use Rattle.rows.specs.declared.Request.{Request}
 use Rattle.rows.specs.declared.Row.{Row}
-use Rattle.rows.specs.declared.State.the-variants.{Asking}
+use Rattle.rows.specs.declared.State.the-variants.{Going, Asking}
 use Rattle.rows.specs.Numbers.{stepOf}
-use Rattle.rows.specs.Row.{isFree}
+use Rattle.rows.specs.Row.{blank, isFree, isAsking}
+use Rattle.head.specs.declared.Event.the-variants.{Join, Leave}
+use Rattle.head.specs.Answers.{number}
 use Rattle.share.specs.declared.Table.{Table}
+use Rattle.share.specs.Calls.{step}
 use Rattle.share.specs.Events.{meant}
-use Rattle.share.specs.Table.{row}
+use Rattle.share.specs.Table.{row, AtMostV}
 
 -- "An asking row holds its weight, its position and its open request: opening position, length, ticks served, and the length for its next request."
 pub record AsksWith (r : Row) (weight position opening length served next : ℕ) : Type 0 where
@@ -94,3 +98,35 @@ pub record JoinMeans (t u : Table) (queue weight length : ℕ) : Type 0 where
   pub slice : SameSlice t u
   -- "fixed when a table is made"
   pub terms-same : u .head .terms ≡ t .head .terms
+
+-- "Leave."
+pub record LeaveMeans (t u : Table) (queue : ℕ) : Type 0 where
+  -- the row was asking (refusal 8)
+  pub asked : isAsking (row t queue .state) ≡ true
+  -- "If its lag is 0 or more, the row is freed." V has reached a row exactly when its lag is 0 or more (`lag-sign`); only then is it free.
+  pub freed-exactly : (row u queue ≡ blank) ↔ AtMostV t (row t queue .position)
+  -- "Else it becomes going: its request is dropped, it keeps its weight in W"
+  pub becomes-going : (AtMostV t (row t queue .position) → ⊥) → row u queue ≡ record { weight = row t queue .weight; position = row t queue .position; state = Going }
+  pub sums-kept : (AtMostV t (row t queue .position) → ⊥) → SameSums t u
+  -- and nothing else becomes ready, since V stays
+  pub others-same : (AtMostV t (row t queue .position) → ⊥) → (i : ℕ) → i ≢ queue → row u i ≡ row t i
+  -- no slice comes or goes
+  pub slice : SameSlice t u
+  -- "fixed when a table is made"
+  pub terms-same : u .head .terms ≡ t .head .terms
+
+-- "Reweight. Allowed at lag 0 or more: an accepted leave with its release, then at once an accepted join of the same number with the new weight and
+-- length, with its release"
+pub record ReweightMeans (t u : Table) (queue weight length : ℕ) : Type 0 where
+  -- "Allowed at lag 0 or more"
+  pub owed : AtMostV t (row t queue .position)
+  -- "an accepted leave with its release"
+  pub leaves : number (step t (Leave queue) .answer) ≡ 0
+  -- "then at once an accepted join of the same number with the new weight and length, with its release"
+  pub joins : number (step (step t (Leave queue) .table) (Join queue weight length) .answer) ≡ 0
+  -- and nothing besides
+  pub table-is : u ≡ step (step t (Leave queue) .table) (Join queue weight length) .table
+
+-- "Lag ...: positive when the engine owes it time": a lag of 0 or more, by its numerator
+abbrev pub NotBelow0 : ℤ → Type 0
+NotBelow0 lag = (n : ℕ) × (lag ≡ pos n)
