@@ -10,4 +10,7 @@ pub mod Granting
 pub mod OneDeparture
 pub mod Exactly
 pub mod Equations
+pub mod Releasing
 pub mod Meaning
+pub mod Departing
+pub mod Standing

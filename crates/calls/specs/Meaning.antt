@@ -5,16 +5,19 @@ use mathlib.Core.Bool.{Bool, true, false}
 use mathlib.Core.Logic.{_⊎_, _↔_, _≢_}
 use Prim.Native.Nat.{ℕ, _+_, _*_, _≤_, _<_}
 use lib.IntN.{ℤ, pos}
+use lib.ListN.{length}
 use Rattle.rows.specs.declared.Request.{Request}
 use Rattle.rows.specs.declared.Row.{Row}
 use Rattle.rows.specs.declared.State.the-variants.{Going, Asking}
-use Rattle.rows.specs.Numbers.{stepOf}
-use Rattle.rows.specs.Row.{blank, isFree, isAsking}
+use Rattle.rows.specs.declared.Terms.{Terms}
+use Rattle.rows.specs.Numbers.{queues, stepOf}
+use Rattle.rows.specs.Row.{blank, isFree, isGoing, isAsking}
 use Rattle.head.specs.declared.Event.the-variants.{Join, Leave}
 use Rattle.head.specs.Answers.{number}
 use Rattle.share.specs.declared.Table.{Table}
 use Rattle.share.specs.Calls.{step}
 use Rattle.share.specs.Events.{meant}
+use Rattle.share.specs.Sound.{Calm}
 use Rattle.share.specs.Table.{row, AtMostV}
 
 -- "An asking row holds its weight, its position and its open request: opening position, length, ticks served, and the length for its next request."
@@ -33,6 +36,33 @@ pub record SameSlice (t u : Table) : Type 0 where
   pub out-same : u .head .out ≡ t .head .out
   pub holder-same : u .head .holder ≡ t .head .holder
   pub ticks-same : u .head .ticks ≡ t .head .ticks
+
+-- "Release. After every accepted join, leave, reweight or return, going rows whose lag is 0 or more are freed until there is none." Said of every row
+-- but that of the queue named.
+pub record ReleaseFollows (t u : Table) (queue : ℕ) : Type 0 where
+  -- a row that is not going stays
+  pub others-same : (i : ℕ) → i ≢ queue → isGoing (row t i .state) ≡ false → row u i ≡ row t i
+  -- "going rows whose lag is 0 or more are freed": exactly those that V has reached when all is done
+  pub freed-exactly : (i : ℕ) → i ≢ queue → isGoing (row t i .state) ≡ true → (row u i ≡ blank) ↔ AtMostV u (row t i .position)
+  -- the other going rows stay
+  pub waits : (i : ℕ) → i ≢ queue → isGoing (row t i .state) ≡ true → (AtMostV u (row t i .position) → ⊥) → row u i ≡ row t i
+  -- "until there is none"
+  pub none-left : Calm u
+
+-- "Fresh. An empty table with the given slice limit."
+pub record FreshMeans (u : Table) (terms : Terms) : Type 0 where
+  -- "Queue numbers 0 to 63, one row each." "free rows all zero"
+  pub one-each : length (u .rows) ≡ queues
+  pub all-free : (i : ℕ) → row u i ≡ blank
+  -- W and A of no rows
+  pub total-none : u .head .total ≡ 0
+  pub sum-none : u .head .sum ≡ 0
+  -- "with the given slice limit"
+  pub terms-given : u .head .terms ≡ terms
+  -- "With no slice out, holder and ticks are zero."
+  pub not-out : u .head .out ≡ false
+  pub holder-none : u .head .holder ≡ 0
+  pub ticks-none : u .head .ticks ≡ 0
 
 -- "Length."
 pub record LengthMeans (t u : Table) (queue length : ℕ) : Type 0 where
@@ -81,6 +111,8 @@ pub record ReturnMeans (t u : Table) (queue used : ℕ) (early : Bool) : Type 0 
   pub ticks-none : u .head .ticks ≡ 0
   -- "fixed when a table is made"
   pub terms-same : u .head .terms ≡ t .head .terms
+  -- the release after it
+  pub release : ReleaseFollows t u queue
 
 -- "Join."
 pub record JoinMeans (t u : Table) (queue weight length : ℕ) : Type 0 where
@@ -98,6 +130,8 @@ pub record JoinMeans (t u : Table) (queue weight length : ℕ) : Type 0 where
   pub slice : SameSlice t u
   -- "fixed when a table is made"
   pub terms-same : u .head .terms ≡ t .head .terms
+  -- the release after it
+  pub release : ReleaseFollows t u queue
 
 -- "Leave."
 pub record LeaveMeans (t u : Table) (queue : ℕ) : Type 0 where
@@ -114,6 +148,8 @@ pub record LeaveMeans (t u : Table) (queue : ℕ) : Type 0 where
   pub slice : SameSlice t u
   -- "fixed when a table is made"
   pub terms-same : u .head .terms ≡ t .head .terms
+  -- the release after it
+  pub release : ReleaseFollows t u queue
 
 -- "Reweight. Allowed at lag 0 or more: an accepted leave with its release, then at once an accepted join of the same number with the new weight and
 -- length, with its release"
