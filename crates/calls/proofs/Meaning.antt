@@ -30,7 +30,7 @@ use Rattle.share.specs.declared.Table.{Table}
 use Rattle.share.specs.Asks.{Joins, Lengthens, Returns}
 use Rattle.share.specs.Calls.{step, checksOf}
 use Rattle.share.specs.Events.{emptyTable, meant, joined, lengthSet, chosen, sliceGiven, granted, returned}
-use Rattle.share.specs.Release.{done, released}
+use Rattle.share.specs.Release.{released}
 use Rattle.share.specs.Table.{row, placed, withSlice}
 use Rattle.share.proofs.Accepted.{join-accepted, length-accepted, return-accepted}
 use Rattle.share.proofs.Charges.{holding, return-asks}

@@ -12,7 +12,7 @@ use Rattle.head.specs.Head.{summed}
 use Rattle.share.specs.declared.Table.{Table}
 use Rattle.share.specs.Release.{freed, Frees, done, one, released}
 use Rattle.share.specs.Sound.{Ready, Calm}
-use Rattle.share.specs.Table.{row, reached, placed, AtMostV}
+use Rattle.share.specs.Table.{row, placed, AtMostV}
 use Rattle.share.proofs.Placed.{placed-same, placed-other}
 use Rattle.share.proofs.Release.{freed-other, released-frees}
 use Rattle.share.proofs.Keeps.{frees-calm}

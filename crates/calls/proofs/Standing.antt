@@ -1,5 +1,5 @@
 -- What stands whatever the event: the terms; that V reaches a row exactly when its lag is 0 or more; and that W is 0 exactly when every row is free.
-use mathlib.Core.Bool.{Bool, true, false, cond, not}
+use mathlib.Core.Bool.{Bool, true, false, cond}
 use mathlib.Core.Path.{_≡_, refl, sym, subst, subst⁻¹, _∙_}
 use mathlib.Core.Logic.{⊎-elim, _↔_, _≢_}
 use Prim.Native.Nat.{ℕ, suc, _-_, _*_, _≤_}
