@@ -28,7 +28,7 @@ use Rattle.share.specs.Table.{row, AtMostV, TrueSums}
 use Rattle.share.specs.Sound.{Orderly, Sound}
 use Rattle.share.specs.Release.{Frees, released}
 use Rattle.share.specs.Choice.{eligible, deadline, Chosen}
-use Rattle.share.specs.Events.{emptyTable}
+use Rattle.share.specs.Events.{emptyTable, meant}
 use Rattle.share.specs.Calls.{step, checksOf, doneBy, grantReply, lagReply, lagList}
 use Rattle.share.specs.Runs.{run}
 use Rattle.head.proofs.Entry as Entry
@@ -105,6 +105,13 @@ fresh-means = Meaning.fresh-means
 -- its later ones until a length event."
 pub join-means : (t : Table) (queue weight length : ℕ) → number (step t (Join queue weight length) .answer) ≡ 0 → JoinMeans t (step t (Join queue weight length) .table) queue weight length
 join-means = Meaning.join-means
+
+-- "a length of 0 in a call stands for the house default of 20."
+pub zero-means-the-default : (t : Table) → meant t 0 ≡ 20
+zero-means-the-default = Standing.zero-means
+
+pub other-lengths-mean-themselves : (t : Table) (length : ℕ) → length ≢ 0 → meant t length ≡ length
+other-lengths-mean-themselves = Standing.other-means
 
 -- "Leave. If its lag is 0 or more, the row is freed. Else it becomes going: its request is dropped, it keeps its weight in W and gets no slices"
 pub leave-means : (t : Table) (queue : ℕ) → number (step t (Leave queue) .answer) ≡ 0 → LeaveMeans t (step t (Leave queue) .table) queue

@@ -40,6 +40,7 @@ leaving-reached : (t : Table) (r : Row) → AtMostV t (r .position) → leaving 
 unfolding leaving
 leaving-reached t r level = rw (yes-reached (r .position) (t .head .total) (t .head .sum) level) refl
 
+-- "it becomes going: its request is dropped"
 abbrev goneFrom : Row → Row
 goneFrom r = record { weight = r .weight; position = r .position; state = Going }
 
@@ -62,6 +63,7 @@ module _ (t : Table) (queue : ℕ) (l : Leaves t queue) where
     owing : reached t (row t queue .position) ≡ false
     owing = refuted (reached t (row t queue .position)) (λ e. ahead (reached-yes (row t queue .position) (t .head .total) (t .head .sum) e))
 
+    -- the table between the leave and its release
     abbrev between : Table
     between = placed t queue (leaving t (row t queue))
 

@@ -1,4 +1,4 @@
--- What stands whatever the event: the terms; that V reaches a row exactly when its lag is 0 or more; and that W is 0 exactly when every row is free.
+-- What stands whatever the event: the terms; what a length of 0 stands for; that V reaches a row exactly when its lag is 0 or more; and that W is 0 exactly when every row is free.
 use mathlib.Core.Bool.{Bool, true, false, cond}
 use mathlib.Core.Path.{_≡_, refl, sym, subst, subst⁻¹, _∙_}
 use mathlib.Core.Logic.{⊎-elim, _↔_, _≢_}
@@ -8,7 +8,7 @@ use native.Mathlib.Omega.{arith}
 use lib.Dec.{ltb}
 use lib.IntN.{pos, negsuc, pos-ne-negsuc}
 use lib.ListN.{length, getD}
-use borrow.Author.Tests.{ltb-false, le-ltb}
+use borrow.Author.Tests.{ltb-false, le-ltb, ne-eqb}
 use Rattle.laws.specs.Difference.{_⊖_}
 use Rattle.laws.proofs.Sums.{sum-bound}
 use Rattle.laws.proofs.Tests.{clash, le-or-lt}
@@ -16,6 +16,7 @@ use Rattle.rows.specs.declared.Row.{Row}
 use Rattle.rows.specs.declared.State.{State}
 use Rattle.rows.specs.declared.State.the-variants.{Free, Going, Asking}
 use Rattle.rows.specs.declared.Terms.{Terms}
+use Rattle.rows.specs.Numbers.{lengthMeant, defaultOf}
 use Rattle.rows.specs.Orderly.{OrderlyAs}
 use Rattle.rows.specs.Row.{blank, isFree, weightIn}
 use Rattle.rows.proofs.Shares.{orderly-weight}
@@ -26,7 +27,7 @@ use Rattle.head.specs.Head.{sliced, summed}
 use Rattle.head.specs.Lag.{lagOf}
 use Rattle.share.specs.declared.Table.{Table}
 use Rattle.share.specs.Calls.{step, checksOf, doneBy}
-use Rattle.share.specs.Events.{joined, left, reweighted, lengthSet, granted, returned}
+use Rattle.share.specs.Events.{meant, joined, left, reweighted, lengthSet, granted, returned}
 use Rattle.share.specs.Sound.{Orderly}
 use Rattle.share.specs.Table.{row, trueTotal, placed, withSlice, AtMostV}
 use Rattle.share.proofs.Placed.{weight-within}
@@ -58,6 +59,15 @@ done-terms t (Return queue used early) h = put-terms (withSlice t false 0 0) que
 pub terms-stay : (t : Table) (e : Event) → ((terms : Terms) → e ≢ Fresh terms) → step t e .table .head .terms ≡ t .head .terms
 unfolding step
 terms-stay t e h = call-cases (λ r. r .table .head .terms ≡ t .head .terms) (checksOf t e) t (doneBy t e) (λ why is. refl) (λ fine. done-terms t e h)
+
+-- "a length of 0 in a call stands for the house default of 20": so 0 means 20, and any other length itself
+pub zero-means : (t : Table) → meant t 0 ≡ 20
+unfolding lengthMeant defaultOf
+zero-means t = refl
+
+pub other-means : (t : Table) (length : ℕ) → length ≢ 0 → meant t length ≡ length
+unfolding lengthMeant
+other-means t length there = rw (ne-eqb length 0 there) refl
 
 -- Lag. A difference is 0 or more where the second is at most the first.
 not-below : (a b : ℕ) → b ≤ a → NotBelow0 (a ⊖ b)
