@@ -1,7 +1,7 @@
 -- What holds of a run of events holds of a run of calls: its table is that of its events, and so is its account.
 use mathlib.Core.Bool.{false}
 use mathlib.Core.List.{List}
-use mathlib.Core.Path.{_≡_, subst⁻¹, sym, ap}
+use mathlib.Core.Path.{_≡_, subst⁻¹, ap}
 use Prim.Native.Nat.{ℕ, _≤_, _<_}
 use lib.IntN.{ℤ, pos}
 use lib.ListN.{length, take}

@@ -2,7 +2,7 @@
 -- and `lagReply` of share's specs/Calls): `answered` is what a call answers by them, `tableOf` the table that a list of calls leaves from a fresh one, and
 -- `accountOfCalls` its account. So code, contract, definition and theorem are one chain. The words that the statements use stand in specs/, which is all that
 -- a reader has to believe; the proofs stand where each citation says.
-use mathlib.Core.Bool.{true, false}
+use mathlib.Core.Bool.{true, false, Bool}
 use mathlib.Core.List.{List, map}
 use mathlib.Core.Logic.{_≢_, _↔_}
 use mathlib.Core.Option.{none}
@@ -17,20 +17,22 @@ use Rattle.rows.specs.Orderly.{Allowed}
 use Rattle.rows.specs.Row.{isFree, isGoing}
 use Rattle.head.specs.declared.Answer.the-variants.{Granted}
 use Rattle.head.specs.declared.Event.{Event}
-use Rattle.head.specs.declared.Event.the-variants.{Fresh, Grant}
+use Rattle.head.specs.declared.Event.the-variants.{Fresh, Join, Leave, Reweight, Length, Grant, Return}
 use Rattle.head.specs.declared.Head.{Head}
 use Rattle.head.specs.declared.Refusal.{Refusal}
 use Rattle.head.specs.declared.Refusal.the-variants.{LimitOutside}
 use Rattle.head.specs.Answers.{refusalNumber, number}
+use Rattle.head.specs.Lag.{lagOf}
 use Rattle.head.specs.Refusals.{firstOf}
 use Rattle.share.specs.declared.Table.{Table}
-use Rattle.share.specs.Calls.{refused, accepted, checksOf, grantReply, lagReply, lagList, releaseReply, freshReply}
+use Rattle.share.specs.Calls.{refused, accepted, checksOf, grantReply, lagReply, lagList, releaseReply, freshReply, step}
 use Rattle.share.specs.Choice.{eligible, deadline, Chosen}
-use Rattle.share.specs.Events.{emptyTable}
+use Rattle.share.specs.Events.{emptyTable, meant}
 use Rattle.share.specs.Release.{Frees, released, freed}
-use Rattle.share.specs.Sound.{Sound}
+use Rattle.share.specs.Sound.{Sound, Orderly}
 use Rattle.share.specs.Table.{row, AtMostV, TrueSums}
 use Rattle.calls.specs.Against.{AllFree, NoneLower, Against, LimitWrong, OnTable}
+use Rattle.calls.specs.Meaning.{FreshMeans, JoinMeans, LeaveMeans, ReweightMeans, LengthMeans, GrantMeans, ReturnMeans, NotBelow0}
 use Rattle.calls.specs.Public.{HandedBack, tableOf, Call, answered, doneOn}
 use Rattle.calls.specs.Rightly.{Rightly}
 use Rattle.fractions.specs.Fraction.{nothing, _~_, total}
@@ -53,10 +55,12 @@ use Rattle.calls.proofs.Answering as Answering
 use Rattle.calls.proofs.Calling as Calling
 use Rattle.calls.proofs.Given as Given
 use Rattle.calls.proofs.OneDeparture as OneDeparture
+use Rattle.calls.proofs.Departed as Departed
+use Rattle.calls.proofs.Meaning as Meaning
+use Rattle.calls.proofs.Standing as Standing
 use Rattle.calls.proofs.Choosing as Choosing
 use Rattle.calls.proofs.Exactly as Exactly
 use Rattle.calls.proofs.Granting as Granting
-use Rattle.calls.proofs.Soundness as Soundness
 use Rattle.account.proofs.Called as Called
 use Rattle.account.proofs.Theorems as Theorems
 use Rattle.account.proofs.Departures as Departures
@@ -111,6 +115,58 @@ tables-stay-sound = Calling.answered-keeps
 
 pub runs-are-sound : (terms : Terms) → Allowed terms → (cs : List Call) → Sound (tableOf terms cs)
 runs-are-sound = Called.calls-sound
+
+-- and event by event, said of the table before and the table after (calls' specs/Meaning has the words). "Fresh. An empty table with the given slice
+-- limit."
+pub fresh-means : (t : Table) (terms : Terms) → number (step t (Fresh terms) .answer) ≡ 0 → FreshMeans (step t (Fresh terms) .table) terms
+fresh-means = Meaning.fresh-means
+
+-- "Join. The queue enters at the least whole number not below V, or at 0 if the table is empty, and opens its first request; the length given also holds for
+-- its later ones until a length event."
+pub join-means : (t : Table) (queue weight length : ℕ) → number (step t (Join queue weight length) .answer) ≡ 0 → JoinMeans t (step t (Join queue weight length) .table) queue weight length
+join-means = Meaning.join-means
+
+-- "a length of 0 in a call stands for the house default of 20."
+pub zero-means-the-default : (t : Table) → meant t 0 ≡ 20
+zero-means-the-default = Standing.zero-means
+
+pub other-lengths-mean-themselves : (t : Table) (length : ℕ) → length ≢ 0 → meant t length ≡ length
+other-lengths-mean-themselves = Standing.other-means
+
+-- "Leave. If its lag is 0 or more, the row is freed. Else it becomes going: its request is dropped, it keeps its weight in W and gets no slices"
+pub leave-means : (t : Table) (queue : ℕ) → number (step t (Leave queue) .answer) ≡ 0 → LeaveMeans t (step t (Leave queue) .table) queue
+leave-means = Departed.leave-means
+
+-- "Lag of a row ...: positive when the engine owes it time.": it is 0 or more exactly when V has reached the row
+pub lag-sign : (t : Table) → Orderly t → (i : ℕ) → isFree (row t i .state) ≡ false → AtMostV t (row t i .position) ↔ NotBelow0 (lagOf (t .head) (row t i))
+lag-sign = Standing.lag-sign
+
+-- "Reweight. Allowed at lag 0 or more: an accepted leave with its release, then at once an accepted join of the same number with the new weight and length,
+-- with its release"
+pub reweight-means : (t : Table) (queue weight length : ℕ) → number (step t (Reweight queue weight length) .answer) ≡ 0 → ReweightMeans t (step t (Reweight queue weight length) .table) queue weight length
+reweight-means = Departed.reweight-means
+
+-- "Length. Sets the length of the next request. The open one stays."
+pub length-means : (t : Table) (queue length : ℕ) → number (step t (Length queue length) .answer) ≡ 0 → LengthMeans t (step t (Length queue length) .table) queue length
+length-means = Meaning.length-means
+
+-- "Grant. Among asking rows with opening at most V, the one with the least deadline; of equal deadlines, the lowest number. The answer is the number and the
+-- slice."
+pub grant-means : (t : Table) (queue slice : ℕ) → step t Grant .answer ≡ Granted queue slice → Rightly t queue slice × GrantMeans t (step t Grant .table) queue slice
+grant-means = Meaning.grant-means
+
+-- "Return. ... Position rises by used x step. If the request is used up or ended early, the next opens at the new position (equations 11 and 12). The slice is
+-- no longer out."
+pub return-means : (t : Table) (queue used : ℕ) (early : Bool) → number (step t (Return queue used early) .answer) ≡ 0 → ReturnMeans t (step t (Return queue used early) .table) queue used early
+return-means = Meaning.return-means
+
+-- "Slice limit 1 to 100 ticks, fixed when a table is made."
+pub terms-stay : (t : Table) (e : Event) → ((terms : Terms) → e ≢ Fresh terms) → step t e .table .head .terms ≡ t .head .terms
+terms-stay = Standing.terms-stay
+
+-- "total weight W of all rows not free": W is 0 exactly when the table is empty
+pub empty-means : (t : Table) → Orderly t → (t .head .total ≡ 0) ↔ ((i : ℕ) → isFree (row t i .state) ≡ true)
+empty-means = Standing.empty-means
 
 -- "with our rules for rounding,"
 pub enters-not-below-V : (h : Head) → 0 < h .total → h .sum ≤ Head.entry h * h .total

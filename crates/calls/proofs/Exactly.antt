@@ -35,7 +35,7 @@ stays-blank j (done calm) e = e
 stays-blank {t} j (one i r rest) e = stays-blank j rest (freed-blank t i j e (ℕ-discrete j i))
 
 -- what becomes of a going row: it stays, or it is freed and V has reached where it stood
-abbrev Becomes : Table → ℕ → Row → Type 0
+abbrev pub Becomes : Table → ℕ → Row → Type 0
 Becomes u j r = (row u j ≡ r) ⊎ ((row u j ≡ blank) × AtMostV u (r .position))
 
 turn : {t u : Table} (i j : ℕ) → Ready t i → Frees (freed t i) u → Becomes u j (row (freed t i) j) → Dec (j ≡ i) → Becomes u j (row t j)
@@ -47,7 +47,7 @@ turn {t} {u} i j r rest later (yes e) =
     )
 turn {t} {u} i j r rest later (no apart) = subst (Becomes u j) (freed-other t i j apart) later
 
-becomes : {t u : Table} (j : ℕ) → Frees t u → Becomes u j (row t j)
+pub becomes : {t u : Table} (j : ℕ) → Frees t u → Becomes u j (row t j)
 becomes j (done calm) = _⊎_.inl refl
 becomes j (one i r rest) = turn i j r rest (becomes j rest) (ℕ-discrete j i)
 

@@ -12,3 +12,7 @@ pub mod Exactly
 pub mod Equations
 pub mod Calling
 pub mod Given
+pub mod Releasing
+pub mod Meaning
+pub mod Departed
+pub mod Standing

@@ -152,7 +152,7 @@ returned-sound t queue used early r =
     (placed-keeps (withSlice t false 0 0) queue new refl (taken-in t o) (r .inside)
     (charged-orderly (row t queue) (h .request) used early (h .is-asking) (o .each queue) (charge-within t queue used r)))
 
-blank-row : (n i : ℕ) → getD (replicate n blank) i blank ≡ blank
+pub blank-row : (n i : ℕ) → getD (replicate n blank) i blank ≡ blank
 blank-row zero i = refl
 blank-row (suc n) zero = refl
 blank-row (suc n) (suc i) = blank-row n i
