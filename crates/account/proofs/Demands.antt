@@ -3,16 +3,17 @@
 -- `accountOfCalls` its account. So code, contract, definition and theorem are one chain. The words that the statements use stand in specs/, which is all that
 -- a reader has to believe; the proofs stand where each citation says.
 use mathlib.Core.Bool.{true, false, Bool}
-use mathlib.Core.List.{List, map}
+use mathlib.Core.List.{List, map, _∷_, _++_, []}
 use mathlib.Core.Logic.{_≢_, _↔_}
 use mathlib.Core.Option.{none}
 use mathlib.Core.Path.{_≡_}
-use Prim.Native.Nat.{ℕ, _*_, _≤_, _<_, _+_}
+use Prim.Native.Nat.{ℕ, _*_, _≤_, _<_, _+_, _^_}
 use lib.IntN.{ℤ, pos}
+use lib.Signed.{mag}
 use lib.ListN.{length, take}
 use Rattle.rows.specs.declared.Row.{Row}
 use Rattle.rows.specs.declared.Terms.{Terms}
-use Rattle.rows.specs.Numbers.{queues, leastTerms}
+use Rattle.rows.specs.Numbers.{unit, queues, leastTerms, stepOf, maxWeight}
 use Rattle.rows.specs.Orderly.{Allowed}
 use Rattle.rows.specs.Row.{isFree, isGoing}
 use Rattle.head.specs.declared.Answer.the-variants.{Granted}
@@ -21,7 +22,7 @@ use Rattle.head.specs.declared.Event.the-variants.{Fresh, Join, Leave, Reweight
 use Rattle.head.specs.declared.Head.{Head}
 use Rattle.head.specs.declared.Refusal.{Refusal}
 use Rattle.head.specs.declared.Refusal.the-variants.{LimitOutside}
-use Rattle.head.specs.Answers.{refusalNumber, number}
+use Rattle.head.specs.Answers.{refusalNumber, number, sliceGranted, queueGranted, denominatorGiven}
 use Rattle.head.specs.Lag.{lagOf}
 use Rattle.head.specs.Refusals.{firstOf}
 use Rattle.share.specs.declared.Table.{Table}
@@ -33,7 +34,7 @@ use Rattle.share.specs.Sound.{Sound, Orderly}
 use Rattle.share.specs.Table.{row, AtMostV, TrueSums}
 use Rattle.calls.specs.Against.{AllFree, NoneLower, Against, LimitWrong, OnTable}
 use Rattle.calls.specs.Meaning.{FreshMeans, JoinMeans, LeaveMeans, ReweightMeans, LengthMeans, GrantMeans, ReturnMeans, NotBelow0}
-use Rattle.calls.specs.Public.{HandedBack, tableOf, Call, answered, doneOn}
+use Rattle.calls.specs.Public.{HandedBack, tableOf, Call, answered, doneOn, event}
 use Rattle.calls.specs.Rightly.{Rightly}
 use Rattle.fractions.specs.Fraction.{nothing, _~_, total}
 use Rattle.fractions.specs.Signed.{summed}
@@ -59,7 +60,10 @@ use Rattle.calls.proofs.Departed as Departed
 use Rattle.calls.proofs.Meaning as Meaning
 use Rattle.calls.proofs.Standing as Standing
 use Rattle.calls.proofs.Choosing as Choosing
+use Rattle.calls.proofs.Equations as Equations
 use Rattle.calls.proofs.Exactly as Exactly
+use Rattle.calls.proofs.Figures as Figures
+use Rattle.rows.proofs.Steps as Steps
 use Rattle.calls.proofs.Granting as Granting
 use Rattle.account.proofs.Called as Called
 use Rattle.account.proofs.Theorems as Theorems
@@ -71,6 +75,12 @@ use Rattle.account.proofs.Frames as Frames
 -- statement about definitions.) "What is not allowed is refused by its number," the fields that a call does not speak of are 0,
 pub refused-by-its-number : (t : Table) (c : Call) (why : Refusal) → number (answered t c .answer) ≡ refusalNumber why → HandedBack t (answered t c) why
 refused-by-its-number = Given.refused-by
+
+pub only-a-grant-names-a-queue : (t : Table) (c : Call) → c ≢ event Grant → (queueGranted (answered t c .answer) ≡ 0) × (sliceGranted (answered t c .answer) ≡ 0)
+only-a-grant-names-a-queue = Figures.names-no-queue
+
+pub no-event-names-a-denominator : (t : Table) (e : Event) → denominatorGiven (step t e .answer) ≡ 0
+no-event-names-a-denominator = Figures.no-denominator
 
 -- each number exactly when document 01's words hold (`Against`, call by call) and none of a lower number does: "in the fixed order;"
 pub given-exactly-when : (t : Table) (c : Call) (why : Refusal) → (number (answered t c .answer) ≡ refusalNumber why) ↔ (Against t c why × NoneLower t c why)
@@ -193,6 +203,17 @@ released-when-reached = Exactly.released-exactly
 pub freeing-is-equation-14 : (t : Table) (i : ℕ) → TrueSums t → i < length (t .rows) → isFree (row t i .state) ≡ false → let r : Row = row t i in freed t i .head .sum * t .head .total + r .weight * (t .head .total * r .position) ≡ t .head .sum * freed t i .head .total + r .weight * t .head .sum
 freeing-is-equation-14 = OneDeparture.departure-once
 
+-- (and the lag of each who stays, of weight w at p, by its share, equation 15, once: lag' = lag + w x lag of the departed / (W - its weight), crosswise)
+pub staying-is-equation-15 : (t : Table) (i : ℕ) (w p : ℕ) → TrueSums t → i < length (t .rows) → isFree (row t i .state) ≡ false → let r : Row = row t i in let u : Table = freed t i in w * u .head .sum * t .head .total + w * (t .head .total * p) * u .head .total + w * (r .weight * (t .head .total * r .position)) ≡ w * (u .head .total * p) * t .head .total + w * t .head .sum * u .head .total + w * (r .weight * t .head .sum)
+staying-is-equation-15 = Equations.remaining-lag
+
+-- (720,720 is the least common multiple of 1 to 16, so one tick moves a queue by an exact step)
+pub unit-is-a-common-multiple : (w : ℕ) → 1 ≤ w → w ≤ maxWeight → w * stepOf w ≡ unit
+unit-is-a-common-multiple = Steps.weight-times-step
+
+pub unit-is-the-least : (m : ℕ) → 0 < m → ((w : ℕ) → 1 ≤ w → w ≤ maxWeight → (k : ℕ) × (w * k ≡ m)) → unit ≤ m
+unit-is-the-least = Figures.least-multiple
+
 -- "A grant on a sound table is refused for want of a queue exactly when the table is empty."
 pub eleven-exactly-when-empty : (t : Table) → Sound t → (number (grantReply t .answer) ≡ 11) ↔ (t .head .total ≡ 0)
 eleven-exactly-when-empty = Granting.grant-eleven
@@ -218,6 +239,10 @@ V-never-falls = Theorems.V-steady
 pub account-in-any-order : (terms : Terms) (calls : List Event) (a : Account) → Books (noOne terms) (changes terms calls) a → Same a (accountOf terms calls)
 account-in-any-order = Theorems.any-order
 
+-- (each numerator fits a signed 64-bit number)
+pub reported-lags-fit : (t : Table) → Orderly t → (i : ℕ) → mag (lagOf (t .head) (row t i)) ≤ 2 ^ 62
+reported-lags-fit = Figures.lag-within
+
 -- "each departure counts once;"
 pub departure-counts-once : (a : Account) (i : ℕ) → i < length (a .entries) → 0 < weightLeft a i → CountedOnce a i
 departure-counts-once = Departures.counted-once
@@ -238,6 +263,10 @@ accounts-add-up-to-nothing = Theorems.accounts-level
 -- "no account falls as low as minus the longest request opened since it last joined;"
 pub account-above-minus-longest : (terms : Terms) (calls : List Event) (i : ℕ) (q : Queue) → entry (accountOf terms calls) i ≡ present q → tooLow q ≡ false
 account-above-minus-longest = Theorems.account-above
+
+-- (between a reweight's leave and its join too: both are accepted events, `reweight-means`)
+pub account-above-inside-a-reweight : (terms : Terms) (calls : List Event) (queue i : ℕ) (q : Queue) → entry (accountOf terms (calls ++ Leave queue ∷ [])) i ≡ present q → tooLow q ≡ false
+account-above-inside-a-reweight terms calls queue = Theorems.account-above terms (calls ++ Leave queue ∷ [])
 
 pub longest-is-the-longest-seen : (terms : Terms) (calls : List Event) (i : ℕ) (q : Queue) → entry (accountOf terms calls) i ≡ present q → q .longest ≡ longestSeen (emptyTable terms) calls i 0
 longest-is-the-longest-seen = Theorems.longest-seen

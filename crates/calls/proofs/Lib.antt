@@ -16,3 +16,4 @@ pub mod Releasing
 pub mod Meaning
 pub mod Departed
 pub mod Standing
+pub mod Figures
