@@ -9,8 +9,8 @@ use mathlib.Core.Option.{none}
 use mathlib.Core.Path.{_≡_}
 use Prim.Native.Nat.{ℕ, _*_, _≤_, _<_, _+_, _^_}
 use lib.IntN.{ℤ, pos}
-use lib.Signed.{mag}
 use lib.ListN.{length, take}
+use lib.Signed.{mag}
 use Rattle.rows.specs.declared.Row.{Row}
 use Rattle.rows.specs.declared.Terms.{Terms}
 use Rattle.rows.specs.Numbers.{unit, queues, leastTerms, stepOf, maxWeight}
@@ -32,11 +32,11 @@ use Rattle.share.specs.Events.{emptyTable, meant}
 use Rattle.share.specs.Release.{Frees, released, freed}
 use Rattle.share.specs.Sound.{Sound, Orderly}
 use Rattle.share.specs.Table.{row, AtMostV, TrueSums}
-use Rattle.calls.specs.Against.{AllFree, NoneLower, Against, LimitWrong, OnTable}
+use Rattle.calls.specs.Against.{NoneLower, Against, LimitWrong, OnTable}
 use Rattle.calls.specs.Meaning.{FreshMeans, JoinMeans, LeaveMeans, ReweightMeans, LengthMeans, GrantMeans, ReturnMeans, NotBelow0}
 use Rattle.calls.specs.Public.{HandedBack, tableOf, Call, answered, doneOn, event}
 use Rattle.calls.specs.Rightly.{Rightly}
-use Rattle.fractions.specs.Fraction.{nothing, _~_, total}
+use Rattle.fractions.specs.Fraction.{nothing, _~_, total, _⊕_}
 use Rattle.fractions.specs.Signed.{summed}
 use Rattle.account.specs.Account.{present, Queue, Account, entry, owedTo, weightLeft, noOne}
 use Rattle.account.specs.Agrees.{Agrees}
@@ -47,7 +47,8 @@ use Rattle.account.specs.Counted.{accountOf, tableAfter, changes, accoun
 use Rattle.account.specs.Departures.{CountedOnce, freedTwice, sevenLines, eightLines}
 use Rattle.account.specs.Longest.{longestSeen}
 use Rattle.account.specs.Named.{names, Stays, namedBy}
-use Rattle.account.specs.Report.{virtualTime, reported}
+use Rattle.account.specs.Passing.{givenBy, given}
+use Rattle.account.specs.Report.{virtualTime, reported, lagIn}
 use Rattle.account.specs.Same.{Same}
 use Rattle.head.specs.Head as Head
 use Rattle.head.proofs.Entry as Entry
@@ -66,6 +67,7 @@ use Rattle.calls.proofs.Figures as Figures
 use Rattle.rows.proofs.Steps as Steps
 use Rattle.calls.proofs.Granting as Granting
 use Rattle.account.proofs.Called as Called
+use Rattle.account.proofs.Passing as Passing
 use Rattle.account.proofs.Theorems as Theorems
 use Rattle.account.proofs.Departures as Departures
 use Rattle.account.proofs.Twice as Twice
@@ -218,9 +220,6 @@ unit-is-the-least = Figures.least-multiple
 pub eleven-exactly-when-empty : (t : Table) → Sound t → (number (grantReply t .answer) ≡ 11) ↔ (t .head .total ≡ 0)
 eleven-exactly-when-empty = Granting.grant-eleven
 
-pub empty-is-every-row-free : (t : Table) → Sound t → (t .head .total ≡ 0) ↔ AllFree t
-empty-is-every-row-free = Given.empty-free
-
 -- 3. "Over any run of calls from a fresh table, each queue's reported lag equals its account worked out afresh from the run;"
 pub reported-lag-is-account : (terms : Terms) → Allowed terms → (cs : List Call) (lent : List ℤ) → queues ≤ length lent → (i : ℕ) → i < queues → reported (tableOf terms cs) lent i ~ owedTo (entry (accountOfCalls terms cs) i)
 reported-lag-is-account terms is-allowed cs lent long = Called.report-is-account terms is-allowed cs lent long
@@ -246,6 +245,14 @@ reported-lags-fit = Figures.lag-within
 -- "each departure counts once;"
 pub departure-counts-once : (a : Account) (i : ℕ) → i < length (a .entries) → 0 < weightLeft a i → CountedOnce a i
 departure-counts-once = Departures.counted-once
+
+-- (what the table has for one who stays is what it had before, and its share of each row that a release frees, once, in whatever order;)
+pub release-passes-on-once : {t u : Table} (way : Frees t u) (j : ℕ) → TrueSums t → isFree (row u j .state) ≡ false → 0 < u .head .total → lagIn u j ~ lagIn t j ⊕ givenBy way j
+release-passes-on-once = Passing.passes-all-once
+
+-- (and of the row that leaves, if that is freed)
+pub leave-passes-on-once : (t : Table) (queue j : ℕ) → number (step t (Leave queue) .answer) ≡ 0 → AtMostV t (row t queue .position) → let u : Table = step t (Leave queue) .table in isFree (row u j .state) ≡ false → 0 < u .head .total → lagIn u j ~ lagIn t j ⊕ (given t queue j ⊕ givenBy (Release.released-frees (freed t queue)) j)
+leave-passes-on-once = Passing.leave-shares
 
 pub last-one-owes-nothing : (terms : Terms) (calls : List Event) (i : ℕ) (q : Queue) → entry (accountOf terms calls) i ≡ present q → weightLeft (accountOf terms calls) i ≡ 0 → q .owed ~ nothing
 last-one-owes-nothing = Theorems.last-owes-nothing

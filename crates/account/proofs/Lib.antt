@@ -15,5 +15,6 @@ pub mod Orders
 pub mod Longest
 pub mod Frames
 pub mod Theorems
+pub mod Passing
 pub mod Called
 pub mod Demands

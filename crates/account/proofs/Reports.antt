@@ -51,7 +51,7 @@ lag-as Free w A W p = record { same = omega arith }
 lag-as Going w A W p = difference-is (w * A) (w * (W * p))
 lag-as (Asking q) w A W p = difference-is (w * A) (w * (W * p))
 
-lag-is : (t : Table) (r : Row) → Is (lagOf (t .head) r) (rowWeight r * t .head .sum) (rowWeight r * (t .head .total * r .position))
+pub lag-is : (t : Table) (r : Row) → Is (lagOf (t .head) r) (rowWeight r * t .head .sum) (rowWeight r * (t .head .total * r .position))
 unfolding lagOf rowWeight
 lag-is t r = lag-as (r .state) (r .weight) (t .head .sum) (t .head .total) (r .position)
 

@@ -9,6 +9,7 @@ pub mod Same
 pub mod Bound
 pub mod Counted
 pub mod Report
+pub mod Passing
 pub mod Agrees
 pub mod Longest
 pub mod Named

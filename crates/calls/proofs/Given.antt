@@ -5,27 +5,23 @@ use mathlib.Core.List.{List, [], _∷_}
 use mathlib.Core.Logic.{⊎-elim, _↔_}
 use mathlib.Core.Option.{Option, none, some}
 use mathlib.Core.Path.{_≡_, refl, sym, ap, _∙_, subst⁻¹, subst}
-use Prim.Native.Nat.{ℕ, _≤_, _<_}
+use Prim.Native.Nat.{ℕ, _<_}
 use native.Mathlib.Omega.{arith}
-use lib.ListN.{length, getD}
 use borrow.Author.Tests.{ltb-true, lt-ltb, not-true, leb-false, lt-leb}
-use Rattle.laws.proofs.Sums.{sum-bound}
 use Rattle.laws.proofs.Tests.{clash, le-or-lt, refuted}
-use Rattle.rows.specs.declared.Row.{Row}
 use Rattle.rows.specs.declared.State.{State}
 use Rattle.rows.specs.declared.State.the-variants.{Free, Going, Asking}
 use Rattle.rows.specs.declared.Terms.{Terms}
 use Rattle.rows.specs.Numbers.{maxWeight, maxLimit, ceiling, leastTerms}
 use Rattle.rows.specs.Order.{bid, bidAs, bidOf}
-use Rattle.rows.specs.Orderly.{OrderlyAs, limitOutside, fitsCeiling}
-use Rattle.rows.specs.Row.{blank, isFree, weightIn}
+use Rattle.rows.specs.Orderly.{limitOutside, fitsCeiling}
+use Rattle.rows.specs.Row.{isFree}
 use Rattle.rows.specs.Virtual.{eligibleAs, eligibleAt}
 use Rattle.rows.proofs.Orderly.{outside-says, says-outside}
-use Rattle.rows.proofs.Shares.{orderly-weight}
 use Rattle.head.specs.declared.Event.{Event}
 use Rattle.head.specs.declared.Event.the-variants.{Fresh, Join, Leave, Reweight, Length, Grant, Return}
 use Rattle.head.specs.declared.Refusal.{Refusal}
-use Rattle.head.specs.declared.Refusal.the-variants.{Unsound, QueueOutside, WeightOutside, LengthOutside, SliceOut, NotHolder, RowTaken, NotAsking, LagBelow, TicksOutside, TableEmpty, CeilingPassed, ListShort, LimitOutside}
+use Rattle.head.specs.declared.Refusal.the-variants.{Unsound, LimitOutside}
 use Rattle.head.specs.Answers.{refusalNumber, number}
 use Rattle.head.specs.Refusals.{Check, _when_, checksFor, rowTaken, notAsking, ticksOutside, ceilingPassed, passedAs, firstOf}
 use Rattle.share.specs.declared.Reply.{Reply}
@@ -33,69 +29,18 @@ use Rattle.share.specs.declared.Table.{Table}
 use Rattle.share.specs.Calls.{refused, checksOf, releaseChecks, lagChecks, freshReply}
 use Rattle.share.specs.Choice.{eligible, deadline, choice}
 use Rattle.share.specs.Events.{chosenOr0, chosen, emptyTable}
-use Rattle.share.specs.Sound.{Sound, Orderly, sound}
-use Rattle.share.specs.Table.{row, trueTotal}
+use Rattle.share.specs.Sound.{Sound, sound}
+use Rattle.share.specs.Table.{row}
 use Rattle.share.proofs.Mean.{chosen-rightly}
-use Rattle.share.proofs.Placed.{weight-within}
-use Rattle.share.proofs.Sound.{row-past, sound-says, says-sound}
-use Rattle.share.proofs.Totals.{sums-true}
-use Rattle.calls.specs.Against.{AllFree, Against, fresh-14, join-1, join-2, join-3, join-4, join-5, join-7, leave-1, leave-2, leave-5, leave-8, reweight-1, reweight-2, reweight-3, reweight-4, reweight-5, reweight-8, reweight-9, length-1, length-2, length-4, length-5, length-8, grant-1, grant-5, grant-11, grant-12, return-1, return-2, return-6, return-10, release-1, report-1, report-13, PastCeiling, NotSound, OnTable, NoneLower, LimitWrong}
+use Rattle.share.proofs.Sound.{sound-says, says-sound}
+use Rattle.calls.specs.Against.{Against, fresh-14, join-1, join-2, join-3, join-4, join-5, join-7, leave-1, leave-2, leave-5, leave-8, reweight-1, reweight-2, reweight-3, reweight-4, reweight-5, reweight-8, reweight-9, length-1, length-2, length-4, length-5, length-8, grant-1, grant-5, grant-11, grant-12, return-1, return-2, return-6, return-10, release-1, report-1, report-13, PastCeiling, NotSound, OnTable, NoneLower, LimitWrong}
 use Rattle.calls.specs.Public.{HandedBack, doneOn, Call, event, release, report, checksOn, answered}
 use Rattle.calls.proofs.Applying.{none-applies, Applies, here, later, queue-outside, length-outside, unsound-says, not-holder-says, lag-below-says, empty-says, first-applies, applies-given, first-lowest, lowest-first}
 use Rattle.calls.proofs.Calling.{answered-done, answered-refused, on-ordered, done-number}
 use Rattle.calls.proofs.Choosing.{chosen-choice}
+use Rattle.calls.proofs.Numbered.{same-refusal, known}
 use Rattle.calls.proofs.Replies.{fresh-refused}
-
--- a refusal is known by its number, and no number is 0
-abbrev refusalOf : ℕ → Refusal
-refusalOf n =
-    getD (Unsound ∷ Unsound ∷ QueueOutside ∷ WeightOutside ∷ LengthOutside ∷ SliceOut ∷ NotHolder ∷ RowTaken ∷ NotAsking ∷ LagBelow ∷ TicksOutside ∷ TableEmpty ∷ CeilingPassed ∷ ListShort ∷ LimitOutside ∷ []) n Unsound
-
-known : (why : Refusal) → (refusalOf (refusalNumber why) ≡ why) × (1 ≤ refusalNumber why)
-known Unsound = (refl, omega arith)
-known QueueOutside = (refl, omega arith)
-known WeightOutside = (refl, omega arith)
-known LengthOutside = (refl, omega arith)
-known SliceOut = (refl, omega arith)
-known NotHolder = (refl, omega arith)
-known RowTaken = (refl, omega arith)
-known NotAsking = (refl, omega arith)
-known LagBelow = (refl, omega arith)
-known TicksOutside = (refl, omega arith)
-known TableEmpty = (refl, omega arith)
-known CeilingPassed = (refl, omega arith)
-known ListShort = (refl, omega arith)
-known LimitOutside = (refl, omega arith)
-
-same-refusal : (a b : Refusal) → refusalNumber a ≡ refusalNumber b → a ≡ b
-same-refusal a b e = sym (known a .0) ∙ ap refusalOf e ∙ known b .0
-
--- 11: on a sound table W is 0 exactly when every row is free
-zero-free : (s : State) (w p : ℕ) → OrderlyAs s w p → w ≡ 0 → isFree s ≡ true
-zero-free Free w p o e = refl
-zero-free Going w p o e = absurd (omega (arith, o .weight-low))
-zero-free (Asking q) w p o e = absurd (omega (arith, o .0 .weight-low))
-
-free-weightless : (r : Row) → isFree (r .state) ≡ true → weightIn r ≤ 0
-unfolding weightIn
-free-weightless r e = rw e (omega arith)
-
-pub empty-free : (t : Table) → Sound t → (t .head .total ≡ 0) ↔ AllFree t
-unfolding trueTotal row
-empty-free t is = (there, back)
-  where
-    o : Orderly t
-    o = is .orderly-table
-
-    there : t .head .total ≡ 0 → AllFree t
-    there empty i =
-        ⊎-elim (λ past. ap (λ (r : Row). isFree (r .state)) (row-past t i past))
-        (λ inside. zero-free (row t i .state) (row t i .weight) (row t i .position) (o .each i)
-        (omega (arith, weight-within t i (sums-true o) inside, orderly-weight (row t i) (o .each i))))
-        (le-or-lt (length (t .rows)) i)
-
-    back : AllFree t → t .head .total ≡ 0
-    back free = omega (arith, o .total-true, sum-bound weightIn (t .rows) blank 0 (λ i l. free-weightless (row t i) (free i)))
+use Rattle.calls.proofs.Standing.{empty-means}
 
 -- 12: the deadline of the row that is chosen
 passed-asks : (s : State) (w : ℕ) → passedAs s w ≡ true → isFree s ≡ false
@@ -121,7 +66,7 @@ chosen-is t i e = ap chosenOr0 e
 
 module _ (t : Table) (is : Sound t) where
   present : isFree (row t (chosen t) .state) ≡ false → 0 < t .head .total
-  present taken = ⊎-elim (λ l. l) (λ none-there. absurd (clash (empty-free t is .0 (omega arith) (chosen t)) taken)) (le-or-lt 1 (t .head .total))
+  present taken = ⊎-elim (λ l. l) (λ none-there. absurd (clash (empty-means t (is .orderly-table) .0 (omega arith) (chosen t)) taken)) (le-or-lt 1 (t .head .total))
 
   pub ceiling-says : (ceilingPassed (row t (chosen t)) ≡ true) ↔ PastCeiling t
   unfolding ceilingPassed deadline bid eligible eligibleAt
@@ -187,7 +132,7 @@ module _ (t : Table) (is : Sound t) where
   reads-event Grant =
       first-of (Against t (event Grant)) (λ p. grant-1 (unsound-says t .0 p))
       (first-of (Against t (event Grant)) (λ p. grant-5 p)
-      (first-of (Against t (event Grant)) (λ p. grant-11 (empty-free t is .0 (empty-says (t .head) .0 p)))
+      (first-of (Against t (event Grant)) (λ p. grant-11 (empty-means t (is .orderly-table) .0 (empty-says (t .head) .0 p)))
       (first-of (Against t (event Grant)) (λ p. grant-12 (ceiling-says t is .0 p))
       (no-more (Against t (event Grant))))))
   reads-event (Return q u early) =
@@ -232,7 +177,7 @@ module _ (t : Table) (is : Sound t) where
   back (length-8 h) = later (later (later (later (here (ap not h)))))
   back (grant-1 h) = here (unsound-says t .1 h)
   back (grant-5 h) = later (here h)
-  back (grant-11 h) = later (later (here (empty-says (t .head) .1 (empty-free t is .1 h))))
+  back (grant-11 h) = later (later (here (empty-says (t .head) .1 (empty-means t (is .orderly-table) .1 h))))
   back (grant-12 h) = later (later (later (here (ceiling-says t is .1 h))))
   back (return-1 h) = here (unsound-says t .1 h)
   back (return-2 {q} h) = later (here (queue-outside q .1 h))

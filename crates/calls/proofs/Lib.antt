@@ -1,4 +1,5 @@
 -- Theorems on the calls that no function's proof needs. `Answering`, `Granting` and `Soundness` hold what the demands say of single calls and of runs.
+pub mod Numbered
 pub mod Replies
 pub mod Applying
 pub mod Answering
@@ -10,10 +11,10 @@ pub mod Granting
 pub mod OneDeparture
 pub mod Exactly
 pub mod Equations
-pub mod Calling
-pub mod Given
 pub mod Releasing
 pub mod Meaning
 pub mod Departed
 pub mod Standing
+pub mod Calling
+pub mod Given
 pub mod Figures

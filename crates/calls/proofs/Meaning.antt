@@ -1,8 +1,8 @@
 -- What each accepted event means, proved of the definitions that the contracts cite: the statements are the records of specs/Meaning.
 use mathlib.Core.Bool.{Bool, true, false, cond}
+use mathlib.Core.Logic.{_⊎_, ⊎-elim}
 use mathlib.Core.Option.{Option, none, some}
 use mathlib.Core.Path.{_≡_, refl, ap, sym, subst, subst⁻¹, _∙_}
-use mathlib.Core.Logic.{_⊎_, ⊎-elim}
 use Prim.Native.Nat.{ℕ, _+_, _*_, _≤_, _<_}
 use native.Mathlib.Omega.{arith}
 use lib.ListN.{length}
@@ -12,16 +12,15 @@ use Rattle.rows.specs.declared.Row.{Row}
 use Rattle.rows.specs.declared.State.{State}
 use Rattle.rows.specs.declared.State.the-variants.{Free, Going, Asking}
 use Rattle.rows.specs.declared.Terms.{Terms}
+use Rattle.rows.specs.Numbers.{queues}
 use Rattle.rows.specs.Requests.{opened, entering, nextSet, rowNextSet, servedTo, served, charged}
 use Rattle.rows.specs.Row.{isFree, isGoing, isAsking, weightIn, momentIn, chargedTo}
-use Rattle.rows.specs.Numbers.{queues}
 use Rattle.rows.proofs.Requests.{served-early, served-up, served-on}
 use Rattle.head.specs.declared.Answer.the-variants.{Granted}
 use Rattle.head.specs.declared.Event.{Event}
 use Rattle.head.specs.declared.Event.the-variants.{Fresh, Join, Length, Grant, Return}
 use Rattle.head.specs.declared.Refusal.{Refusal}
-use Rattle.head.specs.declared.Refusal.the-variants.{Unsound, QueueOutside, WeightOutside, LengthOutside, SliceOut, NotHolder, RowTaken, NotAsking, LagBelow, TicksOutside, TableEmpty, CeilingPassed, ListShort, LimitOutside}
-use Rattle.head.specs.Answers.{refusalNumber, number}
+use Rattle.head.specs.Answers.{number}
 use Rattle.head.specs.Head.{emptyHead, entry, sliced, summed}
 use Rattle.head.specs.Refusals.{firstOf}
 use Rattle.head.proofs.Entry.{entry-empty, entry-not-below, entry-least}
@@ -36,36 +35,21 @@ use Rattle.share.proofs.Accepted.{join-accepted, length-accepted, return-accept
 use Rattle.share.proofs.Charges.{holding, return-asks}
 use Rattle.share.proofs.Placed.{placed-same, placed-other}
 use Rattle.calls.specs.Meaning.{AsksWith, ReleaseFollows, FreshMeans, LengthMeans, GrantMeans, ReturnMeans, JoinMeans}
-use Rattle.calls.proofs.Answering.{step-done, step-refused}
 use Rattle.calls.specs.Rightly.{Rightly}
+use Rattle.calls.proofs.Answering.{step-done, step-refused}
 use Rattle.calls.proofs.Granting.{grant-rightly}
+use Rattle.calls.proofs.Numbered.{known}
+use Rattle.calls.proofs.Releasing.{put-row, put-slice, put-terms, put-release}
 use Rattle.calls.proofs.SameSums.{placed-total, placed-sum}
 use Rattle.calls.proofs.Soundness.{blank-row}
-use Rattle.calls.proofs.Releasing.{put-row, put-slice, put-terms, put-release}
 
 -- an answer of 0 is no refusal
-above-none : (why : Refusal) → 0 < refusalNumber why
-above-none Unsound = omega arith
-above-none QueueOutside = omega arith
-above-none WeightOutside = omega arith
-above-none LengthOutside = omega arith
-above-none SliceOut = omega arith
-above-none NotHolder = omega arith
-above-none RowTaken = omega arith
-above-none NotAsking = omega arith
-above-none LagBelow = omega arith
-above-none TicksOutside = omega arith
-above-none TableEmpty = omega arith
-above-none CeilingPassed = omega arith
-above-none ListShort = omega arith
-above-none LimitOutside = omega arith
-
 pub accepted-none : (t : Table) (e : Event) → number (step t e .answer) ≡ 0 → firstOf (checksOf t e) ≡ none
 accepted-none t e fine = by (firstOf (checksOf t e)) refl
   where
     by : (o : Option Refusal) → firstOf (checksOf t e) ≡ o → firstOf (checksOf t e) ≡ none
     by none is = is
-    by (some why) is = absurd (omega (arith, above-none why, step-refused t e why is .answer-is, fine))
+    by (some why) is = absurd (omega (arith, known why .1, step-refused t e why is .answer-is, fine))
 
 -- an asking row has a request
 asking-request : (s : State) → isAsking s ≡ true → (q : Request) × (s ≡ Asking q)
