@@ -2,12 +2,13 @@
 """Are the documents true of the files?
 
     python3 docs/check.py             prints each problem on a line, and ends with status 1 if there is one
-    python3 docs/check.py --counts    writes the present line counts into docs/TRUST.md
+    python3 docs/check.py --counts    writes the present counts and line numbers into docs/TRUST.md and README.md first
 
 Of README.md and docs/*.md it looks at
 
 - files: what stands in backticks or in a link and looks like a path is there, from the root or below crates/;
 - links to lines: the three to Demands.antt in README lead to the lines `-- 1.`, `-- 2.` and `-- 3.`;
+- figures: README's numbers of functions, edits and compared lines;
 - names: in a row of PROMISES what follows a file of proofs or definitions is declared there, what follows `code`
   is a function of some src/; in README so are the names of "`name` in `file`";
 - edits: each that PROMISES names is there, and each that is there is named;
@@ -32,6 +33,7 @@ FILE = re.compile(r"[\w./·-]+\.(?:antt|rt|rs|py|md|run|txt|edit)")
 BELOW = re.compile(r"[\w.·-]+(?:/[\w.·-]+)*/|[\w.·-]+(?:/[\w.·-]+)+")
 NAME = re.compile(r"[^\W\d_][\w·'’-]*(?:::\w+)?")
 LINK = re.compile(r"\]\(([^)#\s]+)(?:#L(\d+))?\)")
+FN = re.compile(r"^\s*(?:pub(?:\(crate\))? )?(?:extern \"C\" )?fn (\w+)", flags=re.M)
 TICKED = re.compile(r"`([^`]+)`")
 problems = []
 
@@ -78,7 +80,7 @@ def functions():
                 of = m[1]
             elif line.startswith("}"):
                 of = None
-            elif m := re.match(r"\s*(?:pub(?:\(crate\))? )?(?:extern \"C\" )?fn (\w+)", line):
+            elif m := FN.match(line):
                 names.add(m[1])
                 if of:
                     names.add(f"{of}::{m[1]}")
@@ -118,12 +120,41 @@ def width(path, text):
             problem(path, f"{len(line)} characters in the line that starts '{line[:40]}'")
 
 
-def line_links():
+LEADS = re.compile(r"(?<=\(crates/account/proofs/Demands\.antt#L)\d+(?=\))")
+
+
+def line_links(rewrite):
+    text = README.read_text(encoding="utf-8")
     lines = (CRATES / "account/proofs/Demands.antt").read_text(encoding="utf-8").splitlines()
-    at = [int(n) for n in re.findall(r"\(crates/account/proofs/Demands\.antt#L(\d+)\)", README.read_text(encoding="utf-8"))]
-    right = [i + 1 for k in (1, 2, 3) for i, text in enumerate(lines) if text.startswith(f"-- {k}.")]
-    if at != right:
-        problem(README, f"the demands stand at the lines {right} of Demands.antt, and the links lead to {at}")
+    right = [str(i + 1) for k in (1, 2, 3) for i, line in enumerate(lines) if line.startswith(f"-- {k}.")]
+    at = LEADS.findall(text)
+    if at == right:
+        return
+    if rewrite and len(at) == len(right) == 3:
+        following = iter(right)
+        README.write_text(LEADS.sub(lambda m: next(following), text), encoding="utf-8")
+    else:
+        problem(README, f"the demands stand at the lines {', '.join(right)} of Demands.antt, and the links lead to {', '.join(at)}")
+
+
+def figures(rewrite):
+    """The rows `| what | number | ...` of README's figures that can be counted here."""
+    source = "".join(p.read_text(encoding="utf-8") for p in CRATES.glob("*/src/**/*.rt"))
+    counted = {
+        "functions proved": len(FN.findall(source)),
+        "edits refused": len(list(CRATES.glob("*/must-fail/*.edit"))),
+        "lines compared": len((CRATES / "bandtrace/stdout").read_text(encoding="utf-8").splitlines()) - 1,
+    }
+    for what, number in counted.items():
+        text = README.read_text(encoding="utf-8")
+        row = re.search(rf"(?<=^\| {what} \| )[\d,]+", text, flags=re.M)
+        if row is None:
+            problem(README, f"no figure for {what}")
+        elif row[0] != f"{number:,}":
+            if rewrite:
+                README.write_text(f"{text[:row.start()]}{number:,}{text[row.end():]}", encoding="utf-8")
+            else:
+                problem(README, f"{what}: {number:,}, not {row[0]}")
 
 
 def cells(text, wanted):
@@ -248,7 +279,8 @@ def main():
         else:
             paths(path, text)
             names_in(path, code)
-    line_links()
+    line_links(rewrite)
+    figures(rewrite)
     names_held(code)
     edits()
     trust(rewrite)
