@@ -12,7 +12,7 @@ Of README.md and docs/*.md it looks at
 - names: in a row of PROMISES what follows a file of proofs or definitions is declared there, what follows `code`
   is a function of some src/; in README so are the names of "`name` in `file`";
 - edits: each that PROMISES names is there, and each that is there is named;
-- TRUST: the counts in brackets, and every file of specs/ is named;
+- TRUST: the counts in brackets, every file of specs/ is named, and what follows a file of src/ in a list is there;
 - width: a line of prose has at most 160 characters.
 
 DECISIONS is history, and its names may be gone: of it only paths are looked at, in entries that are not replaced.
@@ -264,6 +264,19 @@ def trust(rewrite):
             problem(TRUST, f"{path.relative_to(CRATES)} is not named")
 
 
+def names_of_source():
+    for item in re.findall(r"^- .*(?:\n  .*)*", TRUST.read_text(encoding="utf-8"), flags=re.M):
+        file = None
+        for token in TICKED.findall(item):
+            if FILE.fullmatch(token):
+                there = found(token)
+                file = there if there is not None and there.suffix == ".rt" else None
+            elif file is not None and NAME.fullmatch(token):
+                last = token.split("::")[-1]
+                if not re.search(rf"\b(?:fn|struct|enum|const) {last}\b", file.read_text(encoding="utf-8")):
+                    problem(TRUST, f"{file.relative_to(CRATES)} has no `{token}`")
+
+
 def main():
     rewrite = sys.argv[1:] == ["--counts"]
     if sys.argv[1:] and not rewrite:
@@ -282,6 +295,7 @@ def main():
     line_links(rewrite)
     figures(rewrite)
     names_held(code)
+    names_of_source()
     edits()
     trust(rewrite)
     for line in problems:
