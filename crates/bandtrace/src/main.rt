@@ -1,5 +1,6 @@
 // Runs a list of events, one to a line, from standard input, and prints what each was answered. What happens between reading and writing is
-// `lines`; here bytes are moved. If reading or writing fails it stops.
+// `lines`; here bytes are moved. If reading or writing fails it says so on standard error and stops.
+use libc::STDERR_FILENO;
 use libc::STDIN_FILENO;
 use libc::STDOUT_FILENO;
 use lines::State;
@@ -14,7 +15,7 @@ fn main() {
     let mut buf = io::large_buffer();
     let mut out = io::large_buffer();
     let header = lines::header();
-    if io::write_all(STDOUT_FILENO, &header) {
+    if put_out(&header) {
         run(&mut buf, &mut out);
     }
 }
@@ -52,6 +53,7 @@ fn next(state: State, buf: &mut [u8], out: &mut [u8]) -> Step {
     }
     let got = libc::read(STDIN_FILENO, &mut buf[have..]);
     if got < 0 {
+        reading_failed();
         return Step {
             state,
             going: false,
@@ -78,7 +80,7 @@ fn advance(state: State, buf: &mut [u8], out: &mut [u8]) -> Step {
             going: !more,
         };
     }
-    let is_written = io::write_all(STDOUT_FILENO, &out[..written]);
+    let is_written = put_out(&out[..written]);
     Step {
         state: after,
         going: is_written,
@@ -94,4 +96,20 @@ fn last(state: State, buf: &mut [u8], out: &mut [u8]) -> Step {
         state: after,
         going: false,
     }
+}
+
+fn put_out(bytes: &[u8]) -> bool {
+    let is_written = io::write_all(STDOUT_FILENO, bytes);
+    if !is_written {
+        writing_failed();
+    }
+    is_written
+}
+
+fn reading_failed() {
+    io::write_all(STDERR_FILENO, b"bandtrace: reading failed\n");
+}
+
+fn writing_failed() {
+    io::write_all(STDERR_FILENO, b"bandtrace: writing failed\n");
 }

@@ -1,1 +1,2 @@
+-- B1 to B11 hold: one statement, computed
 pub mod Bench

@@ -30,16 +30,16 @@ same-length-2 c = search needs
 returns : tie.Need-returns
 returns c = search needs
 
-slice-reshare-prefix-write-all : tie.Need-slice-reshare-prefix-write-all
-slice-reshare-prefix-write-all c = search needs
+slice-reshare-prefix-put-out : tie.Need-slice-reshare-prefix-put-out
+slice-reshare-prefix-put-out c = search needs
 
-slice-aggregate-write-all : tie.Need-slice-aggregate-write-all
-slice-aggregate-write-all c =
+slice-aggregate-put-out : tie.Need-slice-aggregate-put-out
+slice-aggregate-put-out c =
     let k = c .before .before in
     sym (length-take-le (turned k .turn .result .written) (out k) (turned k .turn .ensures .room))
 
-write-all-requires : tie.Need-write-all-requires
-write-all-requires c κs = search needs
+put-out-requires : tie.Need-put-out-requires
+put-out-requires c κs = search needs
 
 same-length-3 : tie.Need-same-length-3
 same-length-3 c = search needs
@@ -58,9 +58,9 @@ advance-spec =
     same-length
     same-length-2
     returns
-    slice-reshare-prefix-write-all
-    slice-aggregate-write-all
-    write-all-requires
+    slice-reshare-prefix-put-out
+    slice-aggregate-put-out
+    put-out-requires
     same-length-3
     same-length-4
     returns-2)
