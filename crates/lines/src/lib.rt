@@ -18,7 +18,7 @@ use share::Table;
 use writing::write_answer;
 
 // The most bytes of an unfinished line that are kept: one more than a line may have, so that an overlong one stays overlong.
-pub const KEPT: usize = 41;
+pub const KEPT: usize = LONGEST + 1;
 
 // Where the program stands between reading and writing: the table, the number of the next line, and the bytes from..have of the buffer that
 // are not answered yet. `more` says that whole lines may be among them; `written` is how much of the output to write.

@@ -197,7 +197,7 @@ returns : tie.Need-returns Inv-loop μ-loop
 unfolding step
 returns c =
     let judged = c .before .before .before in
-    verdict-refused (checksOf (table judged) (asked judged)) (judged .verdict .result) (tested judged) _ (c .before .why .given .1) (table judged) (doneBy (table judged) (asked judged))
+    verdict-refused (checksOf (table judged) (asked judged)) (judged .verdict .result) (tested judged) _ (c .before .why .given .1) (table judged) _
 
 -- Nothing is refused, whatever the event is.
 enum-told : tie.Need-enum-told Inv-loop μ-loop
