@@ -15,7 +15,7 @@ use Rattle.rows.specs.declared.Row.{Row}
 use Rattle.rows.specs.declared.Terms.{Terms}
 use Rattle.rows.specs.Numbers.{unit, queues, leastTerms, stepOf, maxWeight}
 use Rattle.rows.specs.Orderly.{Allowed}
-use Rattle.rows.specs.Row.{isFree, isGoing}
+use Rattle.rows.specs.Row.{isFree, isGoing, blank}
 use Rattle.head.specs.declared.Answer.the-variants.{Granted}
 use Rattle.head.specs.declared.Event.{Event}
 use Rattle.head.specs.declared.Event.the-variants.{Fresh, Join, Leave, Reweight, Length, Grant, Return}
@@ -152,6 +152,13 @@ leave-means = Departed.leave-means
 -- "Lag of a row ...: positive when the engine owes it time.": it is 0 or more exactly when V has reached the row
 pub lag-sign : (t : Table) → Orderly t → (i : ℕ) → isFree (row t i .state) ≡ false → AtMostV t (row t i .position) ↔ NotBelow0 (lagOf (t .head) (row t i))
 lag-sign = Standing.lag-sign
+
+-- so a queue that leaves is freed, and a going row released, exactly when its lag is 0 or more (and refusal 9 is said by the lag, in `Against`)
+pub left-by-its-lag : (t : Table) (queue : ℕ) → number (step t (Leave queue) .answer) ≡ 0 → (row (step t (Leave queue) .table) queue ≡ blank) ↔ NotBelow0 (lagOf (t .head) (row t queue))
+left-by-its-lag = Standing.left-by-lag
+
+pub released-by-its-lag : (t : Table) → Orderly t → (j : ℕ) → isGoing (row t j .state) ≡ true → (isFree (row (released t) j .state) ≡ true) ↔ NotBelow0 (lagOf (released t .head) (row t j))
+released-by-its-lag = Standing.released-by-lag
 
 -- "Reweight. Allowed at lag 0 or more: an accepted leave with its release, then at once an accepted join of the same number with the new weight and length,
 -- with its release"

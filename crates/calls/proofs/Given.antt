@@ -5,42 +5,46 @@ use mathlib.Core.List.{List, [], _∷_}
 use mathlib.Core.Logic.{⊎-elim, _↔_}
 use mathlib.Core.Option.{Option, none, some}
 use mathlib.Core.Path.{_≡_, refl, sym, ap, _∙_, subst⁻¹, subst}
-use Prim.Native.Nat.{ℕ, _<_}
+use Prim.Native.Nat.{ℕ, _<_, _*_}
 use native.Mathlib.Omega.{arith}
 use borrow.Author.Tests.{ltb-true, lt-ltb, not-true, leb-false, lt-leb}
 use Rattle.laws.proofs.Tests.{clash, le-or-lt, refuted}
+use Rattle.rows.specs.declared.Row.{Row}
 use Rattle.rows.specs.declared.State.{State}
 use Rattle.rows.specs.declared.State.the-variants.{Free, Going, Asking}
 use Rattle.rows.specs.declared.Terms.{Terms}
 use Rattle.rows.specs.Numbers.{maxWeight, maxLimit, ceiling, leastTerms}
 use Rattle.rows.specs.Order.{bid, bidAs, bidOf}
-use Rattle.rows.specs.Orderly.{limitOutside, fitsCeiling}
+use Rattle.rows.specs.Orderly.{limitOutside, fitsCeiling, OrderlyAs}
 use Rattle.rows.specs.Row.{isFree}
 use Rattle.rows.specs.Virtual.{eligibleAs, eligibleAt}
 use Rattle.rows.proofs.Orderly.{outside-says, says-outside}
 use Rattle.head.specs.declared.Event.{Event}
 use Rattle.head.specs.declared.Event.the-variants.{Fresh, Join, Leave, Reweight, Length, Grant, Return}
+use Rattle.head.specs.declared.Head.{Head}
 use Rattle.head.specs.declared.Refusal.{Refusal}
 use Rattle.head.specs.declared.Refusal.the-variants.{Unsound, LimitOutside}
 use Rattle.head.specs.Answers.{refusalNumber, number}
-use Rattle.head.specs.Refusals.{Check, _when_, checksFor, rowTaken, notAsking, ticksOutside, ceilingPassed, passedAs, firstOf}
+use Rattle.head.specs.Lag.{lagOf}
+use Rattle.head.specs.Refusals.{Check, _when_, checksFor, rowTaken, notAsking, ticksOutside, ceilingPassed, passedAs, firstOf, lagBelow}
 use Rattle.share.specs.declared.Reply.{Reply}
 use Rattle.share.specs.declared.Table.{Table}
 use Rattle.share.specs.Calls.{refused, checksOf, releaseChecks, lagChecks, freshReply}
 use Rattle.share.specs.Choice.{eligible, deadline, choice}
 use Rattle.share.specs.Events.{chosenOr0, chosen, emptyTable}
 use Rattle.share.specs.Sound.{Sound, sound}
-use Rattle.share.specs.Table.{row}
+use Rattle.share.specs.Table.{row, AtMostV}
 use Rattle.share.proofs.Mean.{chosen-rightly}
 use Rattle.share.proofs.Sound.{sound-says, says-sound}
-use Rattle.calls.specs.Against.{Against, fresh-14, join-1, join-2, join-3, join-4, join-5, join-7, leave-1, leave-2, leave-5, leave-8, reweight-1, reweight-2, reweight-3, reweight-4, reweight-5, reweight-8, reweight-9, length-1, length-2, length-4, length-5, length-8, grant-1, grant-5, grant-11, grant-12, return-1, return-2, return-6, return-10, release-1, report-1, report-13, PastCeiling, NotSound, OnTable, NoneLower, LimitWrong}
+use Rattle.calls.specs.Against.{Against, fresh-14, join-1, join-2, join-3, join-4, join-5, join-7, leave-1, leave-2, leave-5, leave-8, reweight-1, reweight-2, reweight-3, reweight-4, reweight-5, reweight-8, reweight-9, length-1, length-2, length-4, length-5, length-8, grant-1, grant-5, grant-11, grant-12, return-1, return-2, return-6, return-10, release-1, report-1, report-13, PastCeiling, NotSound, OnTable, NoneLower, LimitWrong, Owes}
+use Rattle.calls.specs.Meaning.{NotBelow0}
 use Rattle.calls.specs.Public.{HandedBack, doneOn, Call, event, release, report, checksOn, answered}
 use Rattle.calls.proofs.Applying.{none-applies, Applies, here, later, queue-outside, length-outside, unsound-says, not-holder-says, lag-below-says, empty-says, first-applies, applies-given, first-lowest, lowest-first}
 use Rattle.calls.proofs.Calling.{answered-done, answered-refused, on-ordered, done-number}
 use Rattle.calls.proofs.Choosing.{chosen-choice}
 use Rattle.calls.proofs.Numbered.{same-refusal, known}
 use Rattle.calls.proofs.Replies.{fresh-refused}
-use Rattle.calls.proofs.Standing.{empty-means}
+use Rattle.calls.proofs.Standing.{empty-means, lag-sign}
 
 -- 12: the deadline of the row that is chosen
 passed-asks : (s : State) (w : ℕ) → passedAs s w ≡ true → isFree s ≡ false
@@ -83,6 +87,33 @@ module _ (t : Table) (is : Sound t) where
         (deadline-passed (t .head .total) (t .head .sum) (r .state) (r .weight) (p .is-chosen .asks) (p .above)),
   )
 
+-- 9: by the lag of the row; a free row stands at 0, and owes nothing
+free-stands : (s : State) (w p : ℕ) → OrderlyAs s w p → isFree s ≡ true → p ≡ 0
+free-stands Free w p o e = o .1
+free-stands Going w p o e = absurd (clash e refl)
+free-stands (Asking q) w p o e = absurd (clash e refl)
+
+free-lag : (h : Head) (r : Row) → isFree (r .state) ≡ true → NotBelow0 (lagOf h r)
+unfolding lagOf
+free-lag h r e = (0, rw e refl)
+
+module _ (t : Table) (is : Sound t) (queue : ℕ) where
+  sign : AtMostV t (row t queue .position) ↔ NotBelow0 (lagOf (t .head) (row t queue))
+  sign = by (isFree (row t queue .state)) refl
+    where
+      by : (b : Bool) → isFree (row t queue .state) ≡ b → AtMostV t (row t queue .position) ↔ NotBelow0 (lagOf (t .head) (row t queue))
+      by true e =
+          let stands : row t queue .position ≡ 0 = free-stands (row t queue .state) (row t queue .weight) (row t queue .position) (is .orderly-table .each queue) e in
+          (λ level. free-lag (t .head) (row t queue) e, λ lag. rw stands (omega arith))
+      by false e = lag-sign t (is .orderly-table) queue e
+
+  lag-says : (lagBelow (t .head) (row t queue) ≡ true) ↔ Owes t queue
+  lag-says =
+      let words = lag-below-says (t .head) (row t queue) in (
+        λ e lag. omega (arith, words .0 e, sign .1 lag),
+        λ owes. words .1 (⊎-elim (λ level. absurd (owes (sign .0 level))) (λ below. below) (le-or-lt (row t queue .position * t .head .total) (t .head .sum))),
+      )
+
 -- one check after the other
 module _ (S : Refusal → Type 0) where
   first-of : {why this : Refusal} {b : Bool} {rest : List Check} → (b ≡ true → S this) → (Applies why rest → S why) → Applies why ((this when b) ∷ rest) → S why
@@ -120,7 +151,7 @@ module _ (t : Table) (is : Sound t) where
       (first-of (Against t (event (Reweight q w l))) (λ p. reweight-4 (length-outside l .0 p))
       (first-of (Against t (event (Reweight q w l))) (λ p. reweight-5 p)
       (first-of (Against t (event (Reweight q w l))) (λ p. reweight-8 (not-true _ p))
-      (first-of (Against t (event (Reweight q w l))) (λ p. reweight-9 (lag-below-says (t .head) (row t q) .0 p))
+      (first-of (Against t (event (Reweight q w l))) (λ p. reweight-9 (lag-says t is q .0 p))
       (no-more (Against t (event (Reweight q w l))))))))))
   reads-event (Length q l) =
       first-of (Against t (event (Length q l))) (λ p. length-1 (unsound-says t .0 p))
@@ -169,7 +200,7 @@ module _ (t : Table) (is : Sound t) where
   back (reweight-4 {l = l} h) = later (later (later (here (length-outside l .1 h))))
   back (reweight-5 h) = later (later (later (later (here h))))
   back (reweight-8 h) = later (later (later (later (later (here (ap not h))))))
-  back (reweight-9 {q} h) = later (later (later (later (later (later (here (lag-below-says (t .head) (row t q) .1 h)))))))
+  back (reweight-9 {q} h) = later (later (later (later (later (later (here (lag-says t is q .1 h)))))))
   back (length-1 h) = here (unsound-says t .1 h)
   back (length-2 {q} h) = later (here (queue-outside q .1 h))
   back (length-4 {l = l} h) = later (later (here (length-outside l .1 h)))

@@ -1,7 +1,7 @@
 -- What stands whatever the event: the terms; what a length of 0 stands for; that V reaches a row exactly when its lag is 0 or more; and that W is 0 exactly when every row is free.
 use mathlib.Core.Bool.{Bool, true, false, cond}
-use mathlib.Core.Path.{_≡_, refl, sym, subst, subst⁻¹, _∙_}
 use mathlib.Core.Logic.{⊎-elim, _↔_, _≢_}
+use mathlib.Core.Path.{_≡_, refl, sym, subst, subst⁻¹, _∙_}
 use Prim.Native.Nat.{ℕ, suc, _-_, _*_, _≤_}
 use native.Mathlib.Nat.{mul-le-mul-left}
 use native.Mathlib.Omega.{arith}
@@ -17,8 +17,8 @@ use Rattle.rows.specs.declared.State.{State}
 use Rattle.rows.specs.declared.State.the-variants.{Free, Going, Asking}
 use Rattle.rows.specs.declared.Terms.{Terms}
 use Rattle.rows.specs.Numbers.{lengthMeant, defaultOf}
-use Rattle.rows.specs.Orderly.{OrderlyAs}
-use Rattle.rows.specs.Row.{blank, isFree, weightIn}
+use Rattle.rows.specs.Orderly.{OrderlyAs, OrderlyRow}
+use Rattle.rows.specs.Row.{blank, isFree, weightIn, isAsking, isGoing}
 use Rattle.rows.proofs.Shares.{orderly-weight}
 use Rattle.head.specs.declared.Event.{Event}
 use Rattle.head.specs.declared.Event.the-variants.{Fresh, Join, Leave, Reweight, Length, Grant, Return}
@@ -28,14 +28,21 @@ use Rattle.head.specs.Lag.{lagOf}
 use Rattle.share.specs.declared.Table.{Table}
 use Rattle.share.specs.Calls.{step, checksOf, doneBy}
 use Rattle.share.specs.Events.{meant, joined, left, reweighted, lengthSet, granted, returned}
+use Rattle.share.specs.Release.{released}
 use Rattle.share.specs.Sound.{Orderly}
 use Rattle.share.specs.Table.{row, trueTotal, placed, withSlice, AtMostV}
+use Rattle.share.proofs.Accepted.{leave-accepted}
 use Rattle.share.proofs.Placed.{weight-within}
 use Rattle.share.proofs.Sound.{every-row}
 use Rattle.share.proofs.Totals.{sums-true}
 use Rattle.calls.specs.Meaning.{NotBelow0}
-use Rattle.calls.proofs.Replies.{call-cases}
+use Rattle.calls.proofs.Departed.{leave-means}
+use Rattle.calls.proofs.Exactly.{released-exactly}
+use Rattle.calls.proofs.Meaning.{accepted-none}
 use Rattle.calls.proofs.Releasing.{put-terms}
+use Rattle.calls.proofs.Replies.{call-cases}
+use Rattle.head.specs.Answers.{number}
+use Rattle.head.specs.Head as AtMost
 
 -- "Slice limit 1 to 100 ticks, fixed when a table is made."
 left-terms : (t : Table) (queue : ℕ) → left t queue .head .terms ≡ t .head .terms
@@ -98,15 +105,41 @@ lag-here : (h : Head) (r : Row) → isFree (r .state) ≡ false → lagOf h r �
 unfolding lagOf
 lag-here h r there = rw there refl
 
-pub lag-sign : (t : Table) → Orderly t → (i : ℕ) → isFree (row t i .state) ≡ false → AtMostV t (row t i .position) ↔ NotBelow0 (lagOf (t .head) (row t i))
-lag-sign t o i there =
-    let r : Row = row t i in
-    let heavy = weighs (r .state) (r .weight) (r .position) (o .each i) there in
-    let both = scaled (r .weight) (r .position) (t .head .total) (t .head .sum) heavy in
-    let is = lag-here (t .head) r there in (
-      λ level. subst⁻¹ NotBelow0 is (not-below (r .weight * t .head .sum) (r .weight * (t .head .total * r .position)) (both .0 level)),
-      λ lag. both .1 (below-not (r .weight * t .head .sum) (r .weight * (t .head .total * r .position)) (subst NotBelow0 is lag)),
+pub lag-sign-of : (h : Head) (r : Row) → OrderlyRow r → isFree (r .state) ≡ false → AtMost.AtMostV h (r .position) ↔ NotBelow0 (lagOf h r)
+lag-sign-of h r o there =
+    let heavy = weighs (r .state) (r .weight) (r .position) o there in
+    let both = scaled (r .weight) (r .position) (h .total) (h .sum) heavy in
+    let is = lag-here h r there in (
+      λ level. subst⁻¹ NotBelow0 is (not-below (r .weight * h .sum) (r .weight * (h .total * r .position)) (both .0 level)),
+      λ lag. both .1 (below-not (r .weight * h .sum) (r .weight * (h .total * r .position)) (subst NotBelow0 is lag)),
     )
+
+pub lag-sign : (t : Table) → Orderly t → (i : ℕ) → isFree (row t i .state) ≡ false → AtMostV t (row t i .position) ↔ NotBelow0 (lagOf (t .head) (row t i))
+lag-sign t o i there = lag-sign-of (t .head) (row t i) (o .each i) there
+
+-- so release and leave go by the lag
+going-there : (s : State) → isGoing s ≡ true → isFree s ≡ false
+going-there Free e = absurd (clash e refl)
+going-there Going e = refl
+going-there (Asking q) e = refl
+
+asking-there : (s : State) → isAsking s ≡ true → isFree s ≡ false
+asking-there Free e = absurd (clash e refl)
+asking-there Going e = refl
+asking-there (Asking q) e = refl
+
+pub released-by-lag : (t : Table) → Orderly t → (j : ℕ) → isGoing (row t j .state) ≡ true → (isFree (row (released t) j .state) ≡ true) ↔ NotBelow0 (lagOf (released t .head) (row t j))
+released-by-lag t o j going =
+    let sign = lag-sign-of (released t .head) (row t j) (o .each j) (going-there (row t j .state) going) in
+    let when = released-exactly t j going in
+    (λ free. sign .0 (when .0 free), λ lag. when .1 (sign .1 lag))
+
+pub left-by-lag : (t : Table) (queue : ℕ) → number (step t (Leave queue) .answer) ≡ 0 → (row (step t (Leave queue) .table) queue ≡ blank) ↔ NotBelow0 (lagOf (t .head) (row t queue))
+left-by-lag t queue e =
+    let means = leave-means t queue e in
+    let o = leave-accepted t queue (accepted-none t (Leave queue) e) .was-sound .orderly-table in
+    let sign = lag-sign t o queue (asking-there (row t queue .state) (means .asked)) in
+    (λ free. sign .0 (means .freed-exactly .0 free), λ lag. means .freed-exactly .1 (sign .1 lag))
 
 -- An empty table: no row has a part in W.
 no-part : (s : State) (n : ℕ) → isFree s ≡ true → cond (isFree s) 0 n ≤ 0

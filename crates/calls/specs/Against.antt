@@ -3,7 +3,7 @@ use mathlib.Core.Bool.{Bool, true, false}
 use mathlib.Core.List.{List}
 use mathlib.Core.Logic.{_⊎_, _≢_}
 use mathlib.Core.Path.{_≡_}
-use Prim.Native.Nat.{ℕ, _*_, _<_}
+use Prim.Native.Nat.{ℕ, _<_}
 use lib.IntN.{ℤ}
 use lib.ListN.{length}
 use Rattle.rows.specs.declared.Terms.{Terms}
@@ -13,10 +13,12 @@ use Rattle.head.specs.declared.Event.the-variants.{Fresh, Join, Leave, Reweight
 use Rattle.head.specs.declared.Refusal.{Refusal}
 use Rattle.head.specs.declared.Refusal.the-variants.{Unsound, QueueOutside, WeightOutside, LengthOutside, SliceOut, NotHolder, RowTaken, NotAsking, LagBelow, TicksOutside, TableEmpty, CeilingPassed, ListShort, LimitOutside}
 use Rattle.head.specs.Answers.{refusalNumber}
+use Rattle.head.specs.Lag.{lagOf}
 use Rattle.share.specs.declared.Table.{Table}
 use Rattle.share.specs.Table.{row}
 use Rattle.share.specs.Sound.{Sound}
 use Rattle.share.specs.Choice.{deadline, Chosen}
+use Rattle.calls.specs.Meaning.{NotBelow0}
 use Rattle.calls.specs.Public.{Call, event, release, report}
 
 -- 1 "the table isn't sound"
@@ -51,9 +53,9 @@ Taken t queue = isFree (row t queue .state) ≡ false
 abbrev pub AsksNothing : Table → ℕ → Type 0
 AsksNothing t queue = isAsking (row t queue .state) ≡ false
 
--- 9 "lag below 0": V = A / W is below the row's position
+-- 9 "lag below 0": the numerator that the lag report has for the row is not 0 or more
 abbrev pub Owes : Table → ℕ → Type 0
-Owes t queue = t .head .sum < row t queue .position * t .head .total
+Owes t queue = NotBelow0 (lagOf (t .head) (row t queue)) → ⊥
 
 -- 10 "more ticks than the slice"
 abbrev pub TooManyTicks : Table → ℕ → Type 0
