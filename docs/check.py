@@ -11,7 +11,7 @@ Of README.md and docs/*.md it looks at
 - figures: README's numbers of functions, edits and compared lines;
 - names: in a row of PROMISES what follows a file of proofs or definitions is declared there, what follows `code`
   is a function of some src/; in README so are the names of "`name` in `file`";
-- edits: each that PROMISES names is there, and each that is there is named;
+- edits: each that PROMISES names is there, each that is there is named, and the text that it replaces stands once in its file;
 - TRUST: the counts in brackets, every file of specs/ is named, and what follows a file of src/ in a list is there;
 - width: a line of prose has at most 160 characters.
 
@@ -230,6 +230,22 @@ def edits():
 MENTION = re.compile(r"`(\w+)/specs/`|`(\w+/(?:specs|proofs|src)/\w+\.(?:antt|rt))`(?: \((\d+)\))?|\b([A-Z]\w*)(?: \((\d+)\))?")
 
 
+def edits_apply():
+    """An edit whose old text has gone would fail the gate only when the gate comes to it."""
+    for edit in sorted(CRATES.glob("*/must-fail/*.edit")):
+        texts, name, old = {}, None, None
+        for line in edit.read_text(encoding="utf-8").splitlines():
+            if line.startswith("file: "):
+                name = edit.parent.parent / line[len("file: "):]
+            elif line.startswith("old: "):
+                old = line[len("old: "):]
+            elif line.startswith("new:"):
+                text = texts.get(name) or (name.read_text(encoding="utf-8") if name.exists() else "")
+                if text.count(old) != 1:
+                    problem(edit, f"its old text stands {text.count(old)} times in {name.name}")
+                texts[name] = text.replace(old, line[len("new: "):], 1)
+
+
 def trust(rewrite):
     text = TRUST.read_text(encoding="utf-8")
     named, crate, out, end = set(), None, [], 0
@@ -297,6 +313,7 @@ def main():
     names_held(code)
     names_of_source()
     edits()
+    edits_apply()
     trust(rewrite)
     for line in problems:
         print(line)

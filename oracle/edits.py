@@ -21,7 +21,7 @@ DIFFERS = "the native program at -O3 ended, but did not write what is expected"
 def replacements(edit):
     """The file, old and new text of each change that an edit makes."""
     name = old = None
-    for line in edit.read_text().splitlines():
+    for line in edit.read_text(encoding="utf-8").splitlines():
         if line.startswith("file: "):
             name = line[len("file: "):]
         elif line.startswith("old: "):
@@ -40,10 +40,10 @@ def prints(edit, crate):
         shutil.copytree(ROOT, copy, ignore=shutil.ignore_patterns("target", ".git"))
         for name, old, new in changes:
             file = copy / "crates" / crate / name
-            text = file.read_text()
+            text = file.read_text(encoding="utf-8")
             if text.count(old) != 1:
                 return "the old text is not there once"
-            file.write_text(text.replace(old, new))
+            file.write_text(text.replace(old, new), encoding="utf-8")
         run = subprocess.run(["rt", "try", "bandtrace"], cwd=copy, capture_output=True, text=True)
         said = run.stdout + run.stderr
         if "FAIL" not in said and run.returncode != 0:
