@@ -8,7 +8,7 @@ use lines::State;
 // A state, and whether there is anything left to do.
 struct Step {
     state: State,
-    going: bool,
+    again: bool,
 }
 
 fn main() {
@@ -24,13 +24,13 @@ fn main() {
 fn run(buf: &mut [u8], out: &mut [u8]) {
     let mut step = Step {
         state: lines::begin(),
-        going: true,
+        again: true,
     };
     let mut turns = u64::MAX;
     while turns > 0 {
         turns -= 1;
-        let going = step.going;
-        if !going {
+        let again = step.again;
+        if !again {
             return;
         }
         let state = step.state;
@@ -48,7 +48,7 @@ fn next(state: State, buf: &mut [u8], out: &mut [u8]) -> Step {
     if buf.len() <= have {
         return Step {
             state,
-            going: false,
+            again: false,
         };
     }
     let got = libc::read(STDIN_FILENO, &mut buf[have..]);
@@ -56,7 +56,7 @@ fn next(state: State, buf: &mut [u8], out: &mut [u8]) -> Step {
         reading_failed();
         return Step {
             state,
-            going: false,
+            again: false,
         };
     }
     if got == 0 {
@@ -65,7 +65,7 @@ fn next(state: State, buf: &mut [u8], out: &mut [u8]) -> Step {
     let n = io::count(got, &buf[have..]);
     Step {
         state: state.grown(n),
-        going: true,
+        again: true,
     }
 }
 
@@ -77,13 +77,13 @@ fn advance(state: State, buf: &mut [u8], out: &mut [u8]) -> Step {
         let more = after.more;
         return Step {
             state: after,
-            going: !more,
+            again: !more,
         };
     }
     let is_written = put_out(&out[..written]);
     Step {
         state: after,
-        going: is_written,
+        again: is_written,
     }
 }
 
@@ -94,7 +94,7 @@ fn last(state: State, buf: &mut [u8], out: &mut [u8]) -> Step {
     let after = step.state;
     Step {
         state: after,
-        going: false,
+        again: false,
     }
 }
 
