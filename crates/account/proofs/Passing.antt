@@ -8,10 +8,8 @@ use native.Mathlib.Omega.{arith}
 use lib.ListN.{length}
 use Rattle.laws.proofs.Tests.{clash}
 use Rattle.rows.specs.declared.Row.{Row}
-use Rattle.rows.specs.declared.State.{State}
-use Rattle.rows.specs.declared.State.the-variants.{Free, Going, Asking}
 use Rattle.rows.specs.Numbers.{unit}
-use Rattle.rows.specs.Row.{blank, isFree, isGoing, weightIn, isAsking}
+use Rattle.rows.specs.Row.{blank, isFree, weightIn}
 use Rattle.rows.proofs.Virtual.{yes-reached}
 use Rattle.head.specs.declared.Event.the-variants.{Leave}
 use Rattle.head.specs.Answers.{number}
@@ -30,7 +28,8 @@ use Rattle.share.proofs.Totals.{sums-true}
 use Rattle.calls.proofs.Answering.{step-done}
 use Rattle.calls.proofs.Exactly.{becomes}
 use Rattle.calls.proofs.Meaning.{accepted-none}
-use Rattle.calls.proofs.OneDeparture.{weight-here, moment-here}
+use Rattle.calls.proofs.Standing.{going-there}
+use Rattle.calls.proofs.OneDeparture.{asking-not-free, weight-here, moment-here}
 use Rattle.fractions.specs.Fraction.{_⊕_, _~_}
 use Rattle.fractions.proofs.Laws.{through, turned, sum-same, sum-nothing, sum-grouped}
 use Rattle.fractions.proofs.Values.{Value, value-over, value-portion, value-sum, value-change, same-value}
@@ -79,11 +78,6 @@ module _ (t : Table) (i j : ℕ) (sums : TrueSums t) (inside : i < length (t .ro
       (shared (t .head .sum) (t .head .total) (freed t i .head .sum) (freed t i .head .total) (weightIn (row t i)) (row t i .position) w p unit A-left W-left)
       (value-sum before share))
 
-going-here : (s : State) → isGoing s ≡ true → isFree s ≡ false
-going-here Free e = absurd (clash e refl)
-going-here Going e = refl
-going-here (Asking q) e = refl
-
 -- one who is not free at the end stood there all along
 still-there : {t u : Table} (j : ℕ) → Frees t u → isFree (row u j .state) ≡ false → isFree (row t j .state) ≡ false
 still-there j way at-end =
@@ -111,7 +105,7 @@ passes-all-once {t} (one i r rest) j sums at-end some =
     let left : 0 < freed t i .head .total = omega (arith, W-falls true-sums rest) in
     let apart = apart-from t i j (still-there j rest at-end) in
     through (passes-all-once rest j true-sums at-end some)
-    (through (sum-same (passes-once t i j sums (ready-inside t i r) (going-here (row t i .state) (r .going)) apart left) (Laws.same (givenBy rest j)))
+    (through (sum-same (passes-once t i j sums (ready-inside t i r) (going-there (row t i .state) (r .going)) apart left) (Laws.same (givenBy rest j)))
     (sum-grouped (lagIn t j) (given t i j) (givenBy rest j)))
 
 -- a leave that frees: the leaver's share first, then those of the rows that it lets go
@@ -119,15 +113,10 @@ freed-first : (t : Table) (queue : ℕ) → reached t (row t queue .position) �
 unfolding left leaving freed
 freed-first t queue owed = rw owed refl
 
-asking-here : (s : State) → isAsking s ≡ true → isFree s ≡ false
-asking-here Free e = absurd (clash e refl)
-asking-here Going e = refl
-asking-here (Asking q) e = refl
-
 pub leave-passes : (t : Table) (queue j : ℕ) → Leaves t queue → AtMostV t (row t queue .position) → isFree (row (left t queue) j .state) ≡ false → 0 < left t queue .head .total → lagIn (left t queue) j ~ lagIn t j ⊕ (given t queue j ⊕ givenBy (released-frees (freed t queue)) j)
 leave-passes t queue j l owed at-end some =
     let is = freed-first t queue (yes-reached _ _ _ owed) in
-    let here = asking-here (row t queue .state) (l .asks) in
+    let here = asking-not-free (row t queue .state) (l .asks) in
     let o = l .was-sound .orderly-table in
     let inside : queue < length (t .rows) = omega (arith, l .inside, o .one-each) in
     let sums = sums-true o in

@@ -47,7 +47,7 @@ abbrev gone : Row → Row
 gone r = record { weight = r .weight; position = r .position; state = Going }
 
 -- "Else it becomes going: ... it keeps its weight in W": a queue that leaves owing time changes neither W nor A
-asking-not-free : (s : State) → isAsking s ≡ true → isFree s ≡ false
+pub asking-not-free : (s : State) → isAsking s ≡ true → isFree s ≡ false
 asking-not-free Free e = absurd (clash e refl)
 asking-not-free Going e = absurd (clash e refl)
 asking-not-free (Asking q) e = refl

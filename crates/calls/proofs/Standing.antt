@@ -18,7 +18,7 @@ use Rattle.rows.specs.declared.State.the-variants.{Free, Going, Asking}
 use Rattle.rows.specs.declared.Terms.{Terms}
 use Rattle.rows.specs.Numbers.{lengthMeant, defaultOf}
 use Rattle.rows.specs.Orderly.{OrderlyAs, OrderlyRow}
-use Rattle.rows.specs.Row.{blank, isFree, weightIn, isAsking, isGoing}
+use Rattle.rows.specs.Row.{blank, isFree, weightIn, isGoing}
 use Rattle.rows.proofs.Shares.{orderly-weight}
 use Rattle.head.specs.declared.Event.{Event}
 use Rattle.head.specs.declared.Event.the-variants.{Fresh, Join, Leave, Reweight, Length, Grant, Return}
@@ -40,6 +40,7 @@ use Rattle.calls.proofs.Departed.{leave-means}
 use Rattle.calls.proofs.Exactly.{released-exactly}
 use Rattle.calls.proofs.Meaning.{accepted-none}
 use Rattle.calls.proofs.Releasing.{put-terms}
+use Rattle.calls.proofs.OneDeparture.{asking-not-free}
 use Rattle.calls.proofs.Replies.{call-cases}
 use Rattle.head.specs.Answers.{number}
 use Rattle.head.specs.Head as AtMost
@@ -118,15 +119,10 @@ pub lag-sign : (t : Table) → Orderly t → (i : ℕ) → isFree (row t i .stat
 lag-sign t o i there = lag-sign-of (t .head) (row t i) (o .each i) there
 
 -- so release and leave go by the lag
-going-there : (s : State) → isGoing s ≡ true → isFree s ≡ false
+pub going-there : (s : State) → isGoing s ≡ true → isFree s ≡ false
 going-there Free e = absurd (clash e refl)
 going-there Going e = refl
 going-there (Asking q) e = refl
-
-asking-there : (s : State) → isAsking s ≡ true → isFree s ≡ false
-asking-there Free e = absurd (clash e refl)
-asking-there Going e = refl
-asking-there (Asking q) e = refl
 
 pub released-by-lag : (t : Table) → Orderly t → (j : ℕ) → isGoing (row t j .state) ≡ true → (isFree (row (released t) j .state) ≡ true) ↔ NotBelow0 (lagOf (released t .head) (row t j))
 released-by-lag t o j going =
@@ -138,7 +134,7 @@ pub left-by-lag : (t : Table) (queue : ℕ) → number (step t (Leave queue) .an
 left-by-lag t queue e =
     let means = leave-means t queue e in
     let o = leave-accepted t queue (accepted-none t (Leave queue) e) .was-sound .orderly-table in
-    let sign = lag-sign t o queue (asking-there (row t queue .state) (means .asked)) in
+    let sign = lag-sign t o queue (asking-not-free (row t queue .state) (means .asked)) in
     (λ free. sign .0 (means .freed-exactly .0 free), λ lag. means .freed-exactly .1 (sign .1 lag))
 
 -- An empty table: no row has a part in W.
