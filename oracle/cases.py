@@ -1,10 +1,11 @@
 #!/usr/bin/env python3
-"""Document 01's bench cases B1 to B11, put to the oracle.
+"""Document 01's bench cases B1 to B11, and T-02's B12, put to the oracle.
 
     python3 oracle/cases.py
 
-The numbers on the right-hand side are copied from document 01. B10 lies too
-far up for a short run, so its table is set up by hand; the others are runs.
+The numbers on the right-hand side are copied from document 01; those of B12,
+which no document gives, were worked out by hand from T-02. B10 lies too far up
+for a short run, so its table is set up by hand; the others are runs.
 """
 
 import sys
@@ -31,6 +32,7 @@ EXAMPLE = ["S 1", "J 1 2 2", "G", "U 1 1 0", "J 0 2 1", "G", "U 0 1 0", "L 1", "
 TO_LINE_7 = EXAMPLE[:7]
 B4 = ["S 1", "J 0 2 1", "J 1 15 1", "G"]
 B5 = B4 + ["U 1 1 0", "J 2 1 1"]
+B12 = ["S 1", "J 3 2 2", "G", "U 3 1 0", "L 3", "G", "J 4 4 1", "G", "U 4 1 0", "W 4 3 2", "G", "U 4 1 0"]
 
 
 def play(lines):
@@ -124,6 +126,14 @@ def cases():
     yield "B11 answer", answer(taken_in), 0
     yield "B11 no slice out", holder(taken_in), None
     yield "B11 nothing else changes", state(taken_in), state(granted)
+    yield "B12 V where the table rests", virtual(B12[:5]), 360_360
+    yield "B12 nobody is there", answer(B12[:6]), 11
+    yield "B12 queue 4 opens at", play(B12[:7])[0].present[4].opening, 360_360
+    yield "B12 A and W", sums(B12[:7]), (1_441_440, 4)
+    yield "B12 V after its tick", virtual(B12[:9]), 540_540
+    yield "B12 reweighted, it opens at", play(B12[:10])[0].present[4].opening, 540_540
+    yield "B12 A and W, reweighted", sums(B12[:10]), (1_621_620, 3)
+    yield "B12 A and W at the end", sums(B12), (2_342_340, 3)
 
 
 def main():

@@ -62,13 +62,21 @@ W 5 2 3=0 R 5 0=0 G=0 U 5 4 0=10 U 5 3 0=0 G=0 U 5 21 0=10 U 5 20 0=0
 W 5 2 0=0 G=0 U 5 21 0=10 U 5 19 0=0 G=0 U 5 2 0=10 U 5 1 0=0
 """
 
-# Reweights of a lone queue: the table empties in between and starts at 0 again.
-# In the last row the queue leaves a going one behind, which is released, so this
-# table empties too.
+# Reweights of a lone queue: the table empties in between and goes on from where
+# it rests. In the third row the queue leaves a going one behind, which is released,
+# so this table empties too.
 LONE = """\
 S 5=0 J 7 3 4=0 G=0 U 7 4 0=0 W 7 5 2=0 G=0 U 7 1 0=0 W 7 16 0=0 G=0 U 7 5 1=0
 L 7=0 G=11 J 7 1 1=0 W 7 1 1=0 L 7=0 L 7=8
 J 0 2 1=0 J 1 2 1=0 G=0 U 0 1 0=0 L 0=0 W 1 3 2=0 G=0 U 1 2 0=0
+"""
+
+# T-02: the table empties and fills again, by one queue that leaves, by a leave that
+# releases others behind it, and by reweights; V goes on from where it rested.
+EMPTIED = """\
+S 1=0 J 3 2 2=0 G=0 U 3 1 0=0 L 3=0 G=11 J 4 4 1=0 G=0 U 4 1 0=0 W 4 3 2=0 G=0 U 4 1 0=0
+S 3=0 J 0 2 3=0 J 1 3 3=0 J 2 5 3=0 G=0 U 2 3 0=0 L 2=0 G=0 U 1 3 0=0 L 1=0 L 0=0 G=11
+J 9 7 2=0 G=0 U 9 2 0=0 J 8 1 1=0 L 8=0 L 9=0 G=11 J 63 16 1=0 W 63 1 1=0 L 63=0 J 0 1 1=0 G=0
 """
 
 
@@ -109,6 +117,7 @@ def gate_lines():
     put_scripted(run, BENCH_CASES)
     put_scripted(run, DEFAULTS)
     put_scripted(run, LONE)
+    put_scripted(run, EMPTIED)
     put_broken(run)
     generate.extend_mixed(run, LINES - 1)
     run.put(b"G")

@@ -499,12 +499,6 @@ def put_at_ceiling(run, ticks):
         put_grant(run, 50)
 
 
-def keep_from_emptying(run, line):
-    """An empty table would start at 0 again, far below P."""
-    departs = line[:1] in b"LW" and len(run.asking()) < 3
-    return b"G" if departs else line
-
-
 def put_near_ceiling(run):
     """After a refusal 12 somebody leaves and another joins."""
     if run.dice.chance(run.kind.broken):
@@ -514,9 +508,9 @@ def put_near_ceiling(run):
     else:
         line = accepted_line(run)
     if line[:1] == b"S" and oracle.read_line(line):
-        line = refused_fresh(run)       # a fresh table would start at 0 as well
-    if run.put(keep_from_emptying(run, line)) == 12:
-        run.put(keep_from_emptying(run, leave_line(run)))
+        line = refused_fresh(run)       # a fresh table would start at 0 again
+    if run.put(line) == 12:
+        run.put(leave_line(run))
         run.put(join_line(run))
 
 

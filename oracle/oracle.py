@@ -50,17 +50,15 @@ class Queue:
 class Table:
     """The rows that are not free, with W, V and the slice that is out."""
 
-    __slots__ = ("limit", "present", "total", "virtual",
-                 "holder", "ticks", "starts")
+    __slots__ = ("limit", "present", "total", "virtual", "holder", "ticks")
 
     def __init__(self, limit):
         self.limit = limit
         self.present = {}           # queue number -> Queue
         self.total = 0              # W
-        self.virtual = None         # V; exists when W is above 0
+        self.virtual = Fraction(0)  # V, which an empty table keeps (T-02)
         self.holder = None
         self.ticks = 0
-        self.starts = 0             # entries into an empty table so far
 
 
 class CheckFailed(Exception):
@@ -88,9 +86,6 @@ def open_request(queue, opening):
 
 def enter(table, number, weight, length):
     """The queue enters at c, the least whole number not below V."""
-    if not table.present:
-        table.virtual = Fraction(0)
-        table.starts += 1
     entry = ceil(table.virtual)
     ahead = weight * (entry - table.virtual) / UNIT
     queue = Queue(weight, -ahead, length)
@@ -106,8 +101,9 @@ def free(table, number):
     table.total -= queue.weight
     if table.present:
         share_out(table, queue.account)
-    else:
-        table.virtual = None
+    elif queue.account != 0 or table.virtual.denominator != 1:
+        raise CheckFailed(f"the last one leaves with account {queue.account} "
+                          f"and V rests at {table.virtual}")
 
 
 def release(table):
@@ -318,12 +314,9 @@ def check_accounts(table):
 
 
 def check_virtual_time(before, table):
-    """V never falls while the table isn't empty."""
-    old_table, starts, virtual = before
-    started_anew = old_table is not table or starts != table.starts
-    if started_anew or virtual is None or table.virtual is None:
-        return
-    if table.virtual < virtual:
+    """V never falls, until an accepted S begins a new run."""
+    old_table, virtual = before
+    if old_table is table and table.virtual < virtual:
         raise CheckFailed(f"V fell from {virtual} to {table.virtual}")
 
 
@@ -333,7 +326,7 @@ def answers(lines):
     table = first_table()
     for count, line in enumerate(lines, 1):
         line = line[:-1] if line.endswith(b"\n") else line
-        before = table, table.starts, table.virtual
+        before = table, table.virtual
         try:
             table, answer = answer_line(table, line)
             check_accounts(table)

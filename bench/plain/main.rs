@@ -86,6 +86,8 @@ struct Table {
     total: u64,
     /// A, the sum of weight x position over them.
     sum: u64,
+    /// Where V stands while no row is present; 0 while one is.
+    resting: u64,
     limit: u64,
     out: bool,
     holder: usize,
@@ -98,6 +100,7 @@ impl Table {
             rows: [FREE_ROW; ROWS],
             total: 0,
             sum: 0,
+            resting: 0,
             limit,
             out: false,
             holder: 0,
@@ -127,7 +130,11 @@ impl Table {
             total += row.weight;
             sum += row.weight * row.position;
         }
-        total == self.total && sum == self.sum && self.has_sound_slice()
+        total == self.total && sum == self.sum && self.rests_soundly() && self.has_sound_slice()
+    }
+
+    fn rests_soundly(&self) -> bool {
+        self.resting <= if self.total == 0 { CEILING } else { 0 }
     }
 
     fn has_sound_slice(&self) -> bool {
@@ -152,10 +159,10 @@ impl Table {
         self.rows[number as usize].state == State::Asking
     }
 
-    /// The row enters at the least whole number not below V.
+    /// The row enters at the least whole number not below V, or where an empty table rests.
     fn enter(&mut self, number: u64, weight: u64, length: u64) {
         let entry = if self.total == 0 {
-            0
+            self.resting
         } else {
             self.sum.div_ceil(self.total)
         };
@@ -171,6 +178,7 @@ impl Table {
         };
         self.total += weight;
         self.sum += weight * entry;
+        self.resting = 0;
     }
 
     /// Taking the share out of A and W is the whole of equation 14.
@@ -178,6 +186,9 @@ impl Table {
         let row = &mut self.rows[number];
         self.total -= row.weight;
         self.sum -= row.weight * row.position;
+        if self.total == 0 {
+            self.resting = row.position;
+        }
         *row = FREE_ROW;
     }
 

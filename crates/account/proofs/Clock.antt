@@ -1,120 +1,150 @@
--- V starts at 0 with each entry into an empty table and never falls while the table is not empty: the table's A / W does so at each half of each
--- event, and the account's V is that.
-use mathlib.Core.Bool.{Bool}
+-- V never falls: each change adds to the account's V a portion of what is not below 0, and a run's table has the account's V.
+use mathlib.Core.Bool.{Bool, true, false, cond}
 use mathlib.Core.List.{List, [], _∷_, _++_}
-use mathlib.Core.Option.{none}
-use mathlib.Core.Path.{subst, _≡_}
-use Prim.Native.Nat.{ℕ, _<_}
-use native.Mathlib.Omega.{arith}
-use Rattle.rows.specs.declared.Terms.{Terms}
+use mathlib.Core.Path.{_≡_, refl, ap, sym, subst⁻¹, _∙_}
+use Prim.Native.Nat.{ℕ}
+use lib.Dec.{eqb}
+use Rattle.laws.specs.Lists.{all}
+use Rattle.laws.proofs.Tests.{clash, and-left, and-right, and-both}
+use Rattle.rows.specs.Numbers.{unit}
 use Rattle.head.specs.declared.Event.{Event}
 use Rattle.head.specs.declared.Event.the-variants.{Fresh, Join, Leave, Reweight, Length, Grant, Return}
-use Rattle.head.specs.declared.Refusal.{Refusal}
-use Rattle.head.specs.Head.{emptyHead}
-use Rattle.head.specs.Refusals.{firstOf}
+use Rattle.head.specs.Answers.{isAccepted}
 use Rattle.share.specs.declared.Table.{Table}
-use Rattle.share.specs.Asks.{Joins, Leaves, Lengthens, Returns}
-use Rattle.share.specs.Calls.{refused, step, checksOf, doneBy}
-use Rattle.share.specs.Events.{emptyTable, joined, left}
-use Rattle.share.proofs.Accepted.{join-accepted, leave-accepted, reweight-accepted, length-accepted, return-accepted}
-use Rattle.share.proofs.Departing.{rejoins}
-use Rattle.calls.proofs.Replies.{call-cases}
-use Rattle.fractions.specs.Fraction.{nothing, _~_}
-use Rattle.fractions.proofs.Laws.{same}
-use Rattle.fractions.proofs.Values.{Value, value-nothing, same-value, value-at-most}
-use Rattle.account.specs.Account.{Account, noOne}
-use Rattle.account.specs.Books.{booked, accountFrom}
-use Rattle.account.specs.Changes.{Change, begins, joins, leaves, lengthens, returns}
-use Rattle.account.specs.Clock.{GoesOn, Steady}
-use Rattle.account.specs.Counted.{countedOf, counted, changes}
-use Rattle.account.proofs.Clearing.{booked-as, account-books}
-use Rattle.account.proofs.Leaving.{fresh-tied}
-use Rattle.account.proofs.Match.{same-weight}
-use Rattle.account.proofs.Simulation.{join-tied, join-clocked, leave-tied, leave-clocked, length-tied, length-clocked, return-tied, return-clocked, refused-counts, step-tied}
-use Rattle.account.proofs.Tied.{Tied, Clocked}
+use Rattle.share.specs.Calls.{step}
+use Rattle.share.specs.Runs.{run}
+use Rattle.fractions.specs.Fraction.{Fraction, whole, nothing, minus, _⊕_, portion, atMost, ceilingOf}
+use Rattle.fractions.proofs.Laws.{at-most-itself, at-most-through, sum-not-less, portion-not-below, short-not-below, whole-not-below, ceiling-reaches}
+use Rattle.account.specs.Account.{Account, entry, isGoing, owedTo, weightIn, isEmpty, passedOn, weightLeft, settled, freed, left, goingAway, newcomer, enteredBeside, enteredAlone, entered, returned, lengthened, made}
+use Rattle.account.specs.Books.{due, Clears, BookedAs, booked, accountFrom}
+use Rattle.account.specs.Changes.{Change, begins, joins, leaves, lengthens, returns, endsInRelease, changesOf}
+use Rattle.account.specs.Clock.{goesOn, changeGoesOn}
+use Rattle.account.specs.Counted.{countedOf, counted}
+use Rattle.account.proofs.Clearing.{booked-as}
 
-goes-on : {t u : Table} {a b : Account} → Tied t a → Tied u b → Clocked t u → GoesOn a b
-goes-on {t} {u} {a} {b} before after clock =
-    let W = same-weight (before .matched) in
-    let W' = same-weight (after .matched) in
-    record {
-      starts =
-          λ none h.
-          let some : 0 < u .head .total = omega arith in
-          same-value (subst (λ (x : ℕ). Value (b .virtual) x 0 (u .head .total)) (clock .starts (omega arith) some) (after .live some .clock))
-          (value-nothing 0 (u .head .total) some);
-      never-falls =
-          λ k h.
-          let some : 0 < t .head .total = omega arith in
-          let more : 0 < u .head .total = omega arith in
-          value-at-most (before .live some .clock) (after .live more .clock) (omega (arith, clock .rises more));
-    }
+-- the account's V before is at most its V after
+abbrev Rises : Account → Account → Type 0
+Rises a b = atMost (a .virtual) (b .virtual) ≡ true
 
-empty-none : (terms : Terms) → 0 < emptyTable terms .head .total → ⊥
-unfolding emptyTable emptyHead
-empty-none terms h = omega arith
+-- what a departure passes on is not below 0, where the account was not
+passed-not-below : (f : Fraction) (n : ℕ) → atMost nothing f ≡ true → atMost nothing (passedOn f n) ≡ true
+unfolding passedOn
+passed-not-below f n h = by (eqb n 0)
+  where
+    by : (b : Bool) → atMost nothing (cond b nothing f) ≡ true
+    by true = at-most-itself nothing
+    by false = h
 
--- one half of an event
-module _ (t : Table) (a : Account) (tied : Tied t a) where
-  joined-on : (i w l : ℕ) → Joins t i w l → GoesOn a (booked a (joins i w l)) × Tied (joined t i w l) (booked a (joins i w l))
-  joined-on i w l j =
-      let after = join-tied t a (booked a (joins i w l)) i w l tied j (booked-as a (joins i w l)) in
-      (goes-on tied after (join-clocked t a i w l tied j), after)
+freed-rises : (a : Account) (i : ℕ) → settled (entry a i) ≡ true → Rises a (freed a i)
+unfolding freed settled
+freed-rises a i h =
+    let passed = passedOn (owedTo (entry a i)) (weightLeft a i) in
+    sum-not-less (a .virtual) (portion passed unit (weightLeft a i))
+    (portion-not-below passed unit (weightLeft a i) (passed-not-below (owedTo (entry a i)) (weightLeft a i) h))
 
-  left-on : (i : ℕ) → Leaves t i → GoesOn a (booked a (leaves i)) × Tied (left t i) (booked a (leaves i))
-  left-on i l =
-      let after = leave-tied t a (booked a (leaves i)) i tied l (booked-as a (leaves i)) in
-      (goes-on tied after (leave-clocked t a i tied l), after)
+left-rises : (a : Account) (i : ℕ) → Rises a (left a i)
+unfolding left
+left-rises a i = by (settled (entry a i)) refl
+  where
+    by : (b : Bool) → settled (entry a i) ≡ b → Rises a (cond b (freed a i) (record { entries = lib.ListN.set (a .entries) i (goingAway (entry a i)); virtual = a .virtual; terms = a .terms }))
+    by true h = freed-rises a i h
+    by false h = at-most-itself (a .virtual)
 
-  length-on : (i l : ℕ) → Lengthens t i l → GoesOn a (booked a (lengthens i l))
-  unfolding booked
-  length-on i l h = goes-on tied (length-tied t a i l tied h) (length-clocked t a i l tied h)
+entered-rises : (a : Account) (i w l : ℕ) → Rises a (entered a i w l)
+unfolding entered enteredBeside enteredAlone
+entered-rises a i w l = by (isEmpty a)
+  where
+    above : Fraction
+    above = whole (ceilingOf (a .virtual)) ⊕ minus (a .virtual)
 
-  returned-on : (i used : ℕ) (early : Bool) → Returns t i used → GoesOn a (booked a (returns i used early))
-  returned-on i used early r =
-      goes-on tied (return-tied t a (booked a (returns i used early)) i used early tied r (booked-as a (returns i used early)))
-      (return-clocked t a i used early tied r)
+    by : (b : Bool) → Rises a (cond b (enteredAlone a i w l) (enteredBeside a i w l))
+    by true = at-most-itself (a .virtual)
+    by false =
+        let W = weightIn (lib.ListN.set (a .entries) i (newcomer w l (minus (portion above w unit)))) in
+        sum-not-less (a .virtual) (portion above w W) (portion-not-below above w W (short-not-below (a .virtual) (whole (ceilingOf (a .virtual))) (ceiling-reaches (a .virtual))))
 
-  begun-on : (terms : Terms) → GoesOn a (booked a (begins terms))
-  unfolding booked
-  begun-on terms = goes-on tied (fresh-tied terms) (record { starts = λ none h. absurd (empty-none terms h); rises = λ h. absurd (empty-none terms h) })
+returned-rises : (a : Account) (i used : ℕ) (early : Bool) → Rises a (returned a i used early)
+unfolding returned
+returned-rises a i used early =
+    sum-not-less (a .virtual) (portion (whole used) unit (weightIn (a .entries)))
+    (portion-not-below (whole used) unit (weightIn (a .entries)) (whole-not-below used))
 
-steady-append : (a : Account) (cs ds : List Change) → Steady a cs → Steady (accountFrom a cs) ds → Steady a (cs ++ ds)
-steady-append a [] ds h k = k
-steady-append a (c ∷ cs) ds h k = (h .0, steady-append (booked a c) cs ds (h .1) k)
+made-rises : (a : Account) (c : Change) → changeGoesOn c ≡ true → Rises a (made a c)
+unfolding lengthened
+made-rises a (begins terms) h = absurd (clash h refl)
+made-rises a (joins queue weight length) h = entered-rises a queue weight _
+made-rises a (leaves queue) h = left-rises a queue
+made-rises a (lengthens queue length) h = at-most-itself (a .virtual)
+made-rises a (returns queue used early) h = returned-rises a queue used early
 
-refused-steady : (t : Table) (a : Account) (e : Event) (why : Refusal) → Steady a (countedOf (refused t why) e)
-refused-steady t a e why = rw (refused-counts t e why) tt
+clears-rises : {a b : Account} → Clears a b → Rises a b
+unfolding due
+clears-rises {a} (Clears.done calm) = at-most-itself (a .virtual)
+clears-rises {a} {b} (Clears.one i d further) =
+    at-most-through (a .virtual) (freed a i .virtual) (b .virtual) (freed-rises a i (and-right (isGoing (entry a i)) _ d)) (clears-rises further)
 
-done-steady : (t : Table) (a : Account) (e : Event) → Tied t a → firstOf (checksOf t e) ≡ none → Steady a (countedOf (doneBy t e) e)
+-- one change with its release
+pub booked-rises : (a : Account) (c : Change) → changeGoesOn c ≡ true → Rises a (booked a c)
+booked-rises a c h = by (endsInRelease c) (booked a c) (booked-as a c)
+  where
+    by : (ends : Bool) (b : Account) → BookedAs ends (made a c) b → Rises a b
+    by true b way = at-most-through (a .virtual) (made a c .virtual) (b .virtual) (made-rises a c h) (clears-rises way)
+    by false b is = subst⁻¹ (Rises a) is (made-rises a c h)
+
+-- and a list of them
+pub account-rises : (a : Account) (cs : List Change) → all changeGoesOn cs ≡ true → Rises a (accountFrom a cs)
+account-rises a [] h = at-most-itself (a .virtual)
+account-rises a (c ∷ cs) h =
+    at-most-through (a .virtual) (booked a c .virtual) (accountFrom (booked a c) cs .virtual) (booked-rises a c (and-left _ _ h))
+    (account-rises (booked a c) cs (and-right (changeGoesOn c) _ h))
+
+-- an event that goes on with the run counts as changes that do
+changes-go-on : (e : Event) → goesOn e ≡ true → all changeGoesOn (changesOf e) ≡ true
+changes-go-on (Fresh terms) h = absurd (clash h refl)
+changes-go-on (Join queue weight length) h = refl
+changes-go-on (Leave queue) h = refl
+changes-go-on (Reweight queue weight length) h = refl
+changes-go-on (Length queue length) h = refl
+changes-go-on Grant h = refl
+changes-go-on (Return queue used early) h = refl
+
+all-append {ℓ} : {A : Type ℓ} (p : A → Bool) (xs ys : List A) → all p xs ≡ true → all p ys ≡ true → all p (xs ++ ys) ≡ true
+all-append p [] ys h k = k
+all-append p (x ∷ xs) ys h k = and-both {a = p x} (and-left _ _ h) (all-append p xs ys (and-right (p x) _ h) k)
+
+counted-go-on : (t : Table) (es : List Event) → all goesOn es ≡ true → all changeGoesOn (counted t es) ≡ true
 unfolding countedOf
-done-steady t a (Fresh terms) tied fine = (begun-on t a tied terms, tt)
-done-steady t a (Join i w l) tied fine = (joined-on t a tied i w l (join-accepted t i w l fine) .0, tt)
-done-steady t a (Leave i) tied fine = (left-on t a tied i (leave-accepted t i fine) .0, tt)
-done-steady t a (Reweight i w l) tied fine =
-    let r = reweight-accepted t i w l fine in
-    let gone = left-on t a tied i (r .leaves) in
-    (gone .0, (joined-on (left t i) (booked a (leaves i)) (gone .1) i w l (rejoins t i w l r) .0, tt))
-done-steady t a (Length i l) tied fine = (length-on t a tied i l (length-accepted t i l fine), tt)
-done-steady t a Grant tied fine = tt
-done-steady t a (Return i used early) tied fine = (returned-on t a tied i used early (return-accepted t i used early fine), tt)
+counted-go-on t [] h = refl
+counted-go-on t (e ∷ es) h =
+    all-append changeGoesOn (countedOf (step t e) e) (counted (step t e .table) es) (by (isAccepted (step t e .answer)))
+    (counted-go-on (step t e .table) es (and-right (goesOn e) _ h))
+  where
+    by : (b : Bool) → all changeGoesOn (cond b (changesOf e) []) ≡ true
+    by true = changes-go-on e (and-left _ _ h)
+    by false = refl
 
-step-steady : (t : Table) (a : Account) (e : Event) → Tied t a → Steady a (countedOf (step t e) e)
-unfolding step
-step-steady t a e tied = call-cases (λ r. Steady a (countedOf r e)) (checksOf t e) t (doneBy t e) (λ why is. refused-steady t a e why) (done-steady t a e tied)
+-- a run in two parts
+pub run-append : (t : Table) (es fs : List Event) → run t (es ++ fs) ≡ run (run t es) fs
+run-append t [] fs = refl
+run-append t (e ∷ es) fs = run-append (step t e .table) es fs
 
-run-steady : (es : List Event) (t : Table) (a : Account) → Tied t a → Steady a (counted t es)
-run-steady [] t a tied = tt
-run-steady (e ∷ es) t a tied =
-    let cs = countedOf (step t e) e in
-    steady-append a cs (counted (step t e .table) es) (step-steady t a e tied)
-    (run-steady es (step t e .table) (accountFrom a cs) (step-tied t a e tied (accountFrom a cs) (account-books a cs)))
+append-grouped {ℓ} : {A : Type ℓ} (xs ys zs : List A) → (xs ++ ys) ++ zs ≡ xs ++ (ys ++ zs)
+append-grouped [] ys zs = refl
+append-grouped (x ∷ xs) ys zs = ap (λ (l : List _). x ∷ l) (append-grouped xs ys zs)
 
-pub clock-steady : (terms : Terms) (calls : List Event) → Steady (noOne terms) (changes terms calls)
-unfolding changes
-clock-steady terms calls = run-steady calls (emptyTable terms) (noOne terms) (fresh-tied terms)
+counted-append : (t : Table) (es fs : List Event) → counted t (es ++ fs) ≡ counted t es ++ counted (run t es) fs
+counted-append t [] fs = refl
+counted-append t (e ∷ es) fs =
+    ap (λ (l : List Change). countedOf (step t e) e ++ l) (counted-append (step t e .table) es fs)
+    ∙ sym (append-grouped (countedOf (step t e) e) (counted (step t e .table) es) (counted (run (step t e .table) es) fs))
 
--- before anyone has joined V is 0, too
-pub first-V : (terms : Terms) → noOne terms .virtual ~ nothing
-unfolding noOne
-first-V terms = same nothing
+accountFrom-append : (a : Account) (cs ds : List Change) → accountFrom a (cs ++ ds) ≡ accountFrom (accountFrom a cs) ds
+accountFrom-append a [] ds = refl
+accountFrom-append a (c ∷ cs) ds = accountFrom-append (booked a c) cs ds
+
+-- the account's V over a further part of a run
+pub further-rises : (t : Table) (a : Account) (es fs : List Event) → all goesOn fs ≡ true → Rises (accountFrom a (counted t es)) (accountFrom a (counted t (es ++ fs)))
+further-rises t a es fs h =
+    subst⁻¹ (λ (b : Account). Rises (accountFrom a (counted t es)) b)
+    (ap (accountFrom a) (counted-append t es fs) ∙ accountFrom-append a (counted t es) (counted (run t es) fs))
+    (account-rises (accountFrom a (counted t es)) (counted (run t es) fs) (counted-go-on (run t es) fs h))

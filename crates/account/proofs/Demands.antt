@@ -11,6 +11,7 @@ use Prim.Native.Nat.{ℕ, _*_, _≤_, _<_, _+_, _^_}
 use lib.IntN.{ℤ, pos}
 use lib.ListN.{length, take}
 use lib.Signed.{mag}
+use Rattle.laws.specs.Lists.{all}
 use Rattle.rows.specs.declared.Row.{Row}
 use Rattle.rows.specs.declared.Terms.{Terms}
 use Rattle.rows.specs.Numbers.{unit, queues, leastTerms, stepOf, maxWeight}
@@ -29,20 +30,21 @@ use Rattle.share.specs.declared.Table.{Table}
 use Rattle.share.specs.Calls.{refused, accepted, checksOf, grantReply, lagReply, lagList, releaseReply, freshReply, step}
 use Rattle.share.specs.Choice.{eligible, deadline, Chosen}
 use Rattle.share.specs.Events.{emptyTable, meant}
-use Rattle.share.specs.Release.{Frees, released, freed}
+use Rattle.share.specs.Release.{Frees, released, freed, Weighed}
 use Rattle.share.specs.Sound.{Sound, Orderly}
 use Rattle.share.specs.Table.{row, AtMostV, TrueSums}
 use Rattle.calls.specs.Against.{NoneLower, Against, LimitWrong, OnTable}
-use Rattle.calls.specs.Meaning.{FreshMeans, JoinMeans, LeaveMeans, ReweightMeans, LengthMeans, GrantMeans, ReturnMeans, NotBelow0}
+use Rattle.calls.specs.Meaning.{FreshMeans, JoinMeans, LeaveMeans, ReweightMeans, LengthMeans, GrantMeans, ReturnMeans, LastFreed, NotBelow0}
 use Rattle.calls.specs.Public.{HandedBack, tableOf, Call, answered, doneOn, event}
 use Rattle.calls.specs.Rightly.{Rightly}
-use Rattle.fractions.specs.Fraction.{nothing, _~_, total, _⊕_}
+use Rattle.fractions.specs.Fraction.{nothing, _~_, atMost, total, _⊕_}
 use Rattle.fractions.specs.Signed.{summed}
 use Rattle.account.specs.Account.{present, Queue, Account, entry, owedTo, weightLeft, noOne}
 use Rattle.account.specs.Agrees.{Agrees}
-use Rattle.account.specs.Books.{Books}
+use Rattle.account.specs.Books.{Books, booked}
 use Rattle.account.specs.Bound.{tooLow}
-use Rattle.account.specs.Clock.{Steady}
+use Rattle.account.specs.Changes.{Change}
+use Rattle.account.specs.Clock.{callGoesOn, changeGoesOn}
 use Rattle.account.specs.Counted.{accountOf, tableAfter, changes, accountOfCalls}
 use Rattle.account.specs.Departures.{CountedOnce, freedTwice, sevenLines, eightLines}
 use Rattle.account.specs.Longest.{longestSeen}
@@ -66,7 +68,9 @@ use Rattle.calls.proofs.Exactly as Exactly
 use Rattle.calls.proofs.Figures as Figures
 use Rattle.rows.proofs.Steps as Steps
 use Rattle.calls.proofs.Granting as Granting
+use Rattle.calls.proofs.Resting as Resting
 use Rattle.account.proofs.Called as Called
+use Rattle.account.proofs.Clock as Clock
 use Rattle.account.proofs.Passing as Passing
 use Rattle.account.proofs.Theorems as Theorems
 use Rattle.account.proofs.Departures as Departures
@@ -133,8 +137,8 @@ runs-are-sound = Called.calls-sound
 pub fresh-means : (t : Table) (terms : Terms) → number (step t (Fresh terms) .answer) ≡ 0 → FreshMeans (step t (Fresh terms) .table) terms
 fresh-means = Meaning.fresh-means
 
--- "Join. The queue enters at the least whole number not below V, or at 0 if the table is empty, and opens its first request; the length given also holds for
--- its later ones until a length event."
+-- "Join. The queue enters at the least whole number not below V," or where an empty table rests (T-02), "and opens its first request; the length given also
+-- holds for its later ones until a length event."
 pub join-means : (t : Table) (queue weight length : ℕ) → number (step t (Join queue weight length) .answer) ≡ 0 → JoinMeans t (step t (Join queue weight length) .table) queue weight length
 join-means = Meaning.join-means
 
@@ -199,10 +203,10 @@ pub ties-to-the-lower : (t : Table) (i j : ℕ) → Chosen t i → eligible t (r
 ties-to-the-lower = Choosing.lowest-number
 
 -- "and departures."
-pub released-in-any-order : {t u v : Table} → TrueSums t → Frees t u → Frees t v → u ≡ v
+pub released-in-any-order : {t u v : Table} → Weighed t → Frees t u → Frees t v → u ≡ v
 released-in-any-order = Release.same-end
 
-pub released-is-that-table : {t u : Table} → TrueSums t → Frees t u → u ≡ released t
+pub released-is-that-table : {t u : Table} → Weighed t → Frees t u → u ≡ released t
 released-is-that-table = Release.frees-released
 
 pub released-when-reached : (t : Table) (j : ℕ) → isGoing (row t j .state) ≡ true → (isFree (row (released t) j .state) ≡ true) ↔ AtMostV (released t) (row t j .position)
@@ -215,6 +219,10 @@ freeing-is-equation-14 = OneDeparture.departure-once
 -- (and the lag of each who stays, of weight w at p, by its share, equation 15, once: lag' = lag + w x lag of the departed / (W - its weight), crosswise)
 pub staying-is-equation-15 : (t : Table) (i : ℕ) (w p : ℕ) → TrueSums t → i < length (t .rows) → isFree (row t i .state) ≡ false → let r : Row = row t i in let u : Table = freed t i in w * u .head .sum * t .head .total + w * (t .head .total * p) * u .head .total + w * (r .weight * (t .head .total * r .position)) ≡ w * (u .head .total * p) * t .head .total + w * t .head .sum * u .head .total + w * (r .weight * t .head .sum)
 staying-is-equation-15 = Equations.remaining-lag
+
+-- (T-02: the last row freed has lag 0 and its position is V exactly; there the table rests)
+pub last-freed-stands-at-V : (t : Table) (i : ℕ) → TrueSums t → isFree (row t i .state) ≡ false → freed t i .head .total ≡ 0 → LastFreed t i
+last-freed-stands-at-V = Resting.last-freed
 
 -- (720,720 is the least common multiple of 1 to 16, so one tick moves a queue by an exact step)
 pub unit-is-a-common-multiple : (w : ℕ) → 1 ≤ w → w ≤ maxWeight → w * stepOf w ≡ unit
@@ -231,15 +239,20 @@ eleven-exactly-when-empty = Granting.grant-eleven
 pub reported-lag-is-account : (terms : Terms) → Allowed terms → (cs : List Call) (lent : List ℤ) → queues ≤ length lent → (i : ℕ) → i < queues → reported (tableOf terms cs) lent i ~ owedTo (entry (accountOfCalls terms cs) i)
 reported-lag-is-account terms is-allowed cs lent long = Called.report-is-account terms is-allowed cs lent long
 
--- (the two agree on who is free, going and asking, and on the weights; the account's V is A / W, and never falls while the table is not empty)
+-- (the two agree on who is free, going and asking, and on the weights;)
 pub account-and-table-agree : (terms : Terms) → Allowed terms → (cs : List Call) (i : ℕ) → Agrees (row (tableOf terms cs) i) (entry (accountOfCalls terms cs) i)
 account-and-table-agree = Called.agree
 
-pub account-has-the-tables-V : (terms : Terms) → Allowed terms → (cs : List Call) → 0 < tableOf terms cs .head .total → accountOfCalls terms cs .virtual ~ virtualTime (tableOf terms cs)
+-- (the account's V is A / W while rows are present, and the resting position while not;)
+pub account-has-the-tables-V : (terms : Terms) → Allowed terms → (cs : List Call) → accountOfCalls terms cs .virtual ~ virtualTime (tableOf terms cs)
 account-has-the-tables-V = Called.same-V
 
-pub V-never-falls : (terms : Terms) (calls : List Event) → Steady (noOne terms) (changes terms calls)
-V-never-falls = Theorems.V-steady
+-- (over a whole run V never falls, empty stretches included: not from any point of it to any later one, and not by any change to any account)
+pub V-never-falls : (terms : Terms) → Allowed terms → (cs ds : List Call) → all callGoesOn ds ≡ true → atMost (virtualTime (tableOf terms cs)) (virtualTime (tableOf terms (cs ++ ds))) ≡ true
+V-never-falls = Called.V-steady
+
+pub accounts-V-never-falls : (a : Account) (c : Change) → changeGoesOn c ≡ true → atMost (a .virtual) (booked a c .virtual) ≡ true
+accounts-V-never-falls = Clock.booked-rises
 
 -- (and the account is the same in whatever order it frees rows)
 pub account-in-any-order : (terms : Terms) (calls : List Event) (a : Account) → Books (noOne terms) (changes terms calls) a → Same a (accountOf terms calls)

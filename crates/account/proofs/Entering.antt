@@ -10,25 +10,22 @@ use native.Mathlib.Omega.{arith}
 use lib.Dec.{eqb}
 use lib.ListN.{length, getD, set}
 use borrow.Author.Tests.{ne-eqb, eq-eqb}
-use Rattle.laws.proofs.Sums.{sum-bound}
 use Rattle.laws.proofs.Tests.{le-or-lt}
 use Rattle.rows.specs.declared.Row.{Row}
-use Rattle.rows.specs.declared.State.{State}
 use Rattle.rows.specs.Numbers.{queues, unit, maxWeight}
 use Rattle.rows.specs.Requests.{opened, entering}
-use Rattle.rows.specs.Row.{blank, isFree}
+use Rattle.rows.specs.Row.{isFree, weightIn as rowWeight}
+use Rattle.rows.proofs.Shares.{free-weighs-nothing}
 use Rattle.head.specs.Head.{summed}
 use Rattle.head.proofs.Entry.{entry-empty, entry-not-below, entry-least}
 use Rattle.share.specs.declared.Table.{Table}
-use Rattle.share.specs.Table.{row, trueSum, placed}
-use Rattle.share.proofs.Sound.{row-past}
+use Rattle.share.specs.Table.{row, placed}
+use Rattle.share.proofs.Placed.{no-weight, no-sum}
 use Rattle.fractions.specs.Fraction.{Fraction, whole, nothing, _⊕_, minus, portion, ceilingOf}
 use Rattle.fractions.proofs.Values.{Value, value-whole, value-nothing, value-minus, value-sum, value-portion, value-change, ceiling-not-below, ceiling-least}
 use Rattle.account.specs.Account.{Entry, absent, present, Account, weightIn, allGain, newcomer, enteredBeside, enteredAlone, entered}
-use Rattle.account.proofs.Match.{Alike, Match, moment-is, same-weight, placed-total, placed-sum, set-both, match-set, match-gain}
-use Rattle.account.proofs.Releases.{weight-within}
-use Rattle.account.proofs.Tied.{Held, Live, Tied, Clocked, Moves, moved, none-owed}
-use Rattle.rows.specs.Row.{blank, isFree, weightIn as rowWeight, momentIn as rowMoment}
+use Rattle.account.proofs.Match.{Alike, Match, same-weight, placed-total, placed-sum, set-both, match-set, match-gain}
+use Rattle.account.proofs.Tied.{Held, Live, Tied, Moves, moved, none-owed}
 use Rattle.head.specs.Head as Share
 use Rattle.account.specs.Account as Acc
 
@@ -48,13 +45,6 @@ newcomer-alike w c l f h =
       weighs = λ e. h;
       request = record { same-length = refl; same-served = refl; same-next = refl; no-longer = omega arith };
     }
-
-free-weight : (s : State) (n : ℕ) → isFree s ≡ true → cond (isFree s) 0 n ≡ 0
-free-weight s n e = rw e refl
-
-pub free-weighs-nothing : (r : Row) → isFree (r .state) ≡ true → rowWeight r ≡ 0
-unfolding rowWeight
-free-weighs-nothing r e = free-weight (r .state) (r .weight) e
 
 -- numbers alone, of a newcomer of weight w at c in W: the move of V, V's rise, and how far the newcomer is ahead
 core-numbers : (A W A' W' w c : ℕ) → A' ≡ A + w * c → W' ≡ W + w → c * W * w + A * W' ≡ A' * W + A * w
@@ -106,20 +96,6 @@ entry-near t h = ⊎-elim lower higher (le-or-lt (t .head .sum) ((Share.entry (t
 nobody : (A W : ℕ) (r : Row) (e : Entry) → 0 < W → Alike r e → rowWeight r ≡ 0 → Held A W r e
 nobody A W r absent h like none = record { lags = none-owed (rowWeight r) A (W * r .position) (W * unit) none (mul-pos h (omega arith)); bounded = tt }
 nobody A W r (present q) h like none = absurd (omega (arith, like .weighs (like .free)))
-
-pub no-weight : (t : Table) (es : List Entry) → Match t es → t .head .total ≡ 0 → (j : ℕ) → rowWeight (row t j) ≡ 0
-no-weight t es m none j = ⊎-elim (λ past. ap rowWeight (row-past t j past) ∙ blank-weight) (λ l. omega (arith, weight-within t j (m .sums) l)) (le-or-lt (length (t .rows)) j)
-  where
-    blank-weight : rowWeight blank ≡ 0
-    blank-weight = free-weighs-nothing blank refl
-
-pub no-sum : (t : Table) (es : List Entry) → Match t es → t .head .total ≡ 0 → t .head .sum ≡ 0
-unfolding trueSum row
-no-sum t es m none =
-    omega (arith, m .sums .sum-true, sum-bound rowMoment (t .rows) blank 0 (λ j l. at j))
-  where
-    at : (j : ℕ) → rowMoment (row t j) ≤ 0
-    at j = rw (moment-is (row t j), no-weight t es m none j) (omega arith)
 
 -- what an entry does to a table that is tied
 module _ (t : Table) (a : Account) (i w l : ℕ) (tied : Tied t a) (numbered : i < queues) (vacant : isFree (row t i .state) ≡ true) (light : 1 ≤ w) (heavy : w ≤ maxWeight) (some : 1 ≤ l) where
@@ -230,25 +206,28 @@ module _ (t : Table) (a : Account) (i w l : ℕ) (tied : Tied t a) (numbered : i
 
     beside-tied : Tied u (enteredBeside a i w l)
     unfolding enteredBeside above gap with-newcomer
-    beside-tied = rw same-total (record { same-terms = terms-kept; matched = match-gain gap (u .head .total) entered-match; live = λ h. beside-live })
+    beside-tied = rw same-total (record { same-terms = terms-kept; matched = match-gain gap (u .head .total) entered-match; live = λ h. beside-live; rests = λ k. absurd (omega (arith, W-new)) })
 
   -- alone
   module _ (none : t .head .total ≡ 0) where
-    c-zero : c ≡ 0
+    c-rests : c ≡ t .head .resting
     unfolding c
-    c-zero = entry-empty (t .head) none
+    c-rests = entry-empty (t .head) none
 
-    A-zero : u .head .sum ≡ 0
-    A-zero = A-new ∙ rw (c-zero, no-sum t (a .entries) (tied .matched) none) (omega arith)
+    A-alone : u .head .sum ≡ w * c
+    A-alone = omega (arith, A-new, no-sum t (tied .matched .sums) none)
 
-    first-held : 0 < u .head .total → Held (u .head .sum) (u .head .total) r (newcomer w l nothing)
+    W-alone : u .head .total ≡ w
+    W-alone = omega (arith, W-new)
+
+    first-held : Held (u .head .sum) (u .head .total) r (newcomer w l nothing)
     unfolding r entering newcomer rowWeight
-    first-held h =
-        rw (A-zero, c-zero)
-        (record {
-          lags = value-change (mul-pos h (omega arith)) (omega arith) (value-nothing 0 1 (omega arith));
-          bounded = omega (arith, mul-pos some h);
-        })
+    first-held =
+        rw (A-alone, W-alone)
+        (record { lags = value-nothing (w * (w * c)) (w * unit) (mul-pos light (omega arith)); bounded = omega (arith, mul-pos some light) })
+
+    first-clock : Value (a .virtual) (u .head .sum) 0 (u .head .total)
+    first-clock = rw (A-alone, W-alone, c-rests) (value-change light (omega arith) (tied .rests none))
 
     alone-tied : Tied u (enteredAlone a i w l)
     unfolding enteredAlone u r
@@ -259,12 +238,13 @@ module _ (t : Table) (a : Account) (i w l : ℕ) (tied : Tied t a) (numbered : i
           live =
               λ h.
               record {
-                clock = rw A-zero (value-nothing 0 (u .head .total) h);
+                clock = first-clock;
                 held =
-                    set-both (Held (u .head .sum) (u .head .total)) t (a .entries) i r (newcomer w l nothing) inside within (first-held h)
+                    set-both (Held (u .head .sum) (u .head .total)) t (a .entries) i r (newcomer w l nothing) inside within first-held
                     (λ j. nobody (u .head .sum) (u .head .total) (row t j) (getD (a .entries) j absent) h (tied .matched .alike j)
-                    (no-weight t (a .entries) (tied .matched) none j));
+                    (no-weight t (tied .matched .sums) none j));
               };
+          rests = λ k. absurd (omega (arith, W-alone));
         }
 
   pub entered-tied : Tied (placed t i (entering w (Share.entry (t .head)) l)) (entered a i w l)
@@ -278,14 +258,3 @@ module _ (t : Table) (a : Account) (i w l : ℕ) (tied : Tied t a) (numbered : i
       alone h =
           let none : t .head .total ≡ 0 = omega arith in
           rw (same-weight (tied .matched), eq-eqb (t .head .total) 0 none) (alone-tied none)
-
-  pub entered-clocked : Clocked t (placed t i (entering w (Share.entry (t .head)) l))
-  unfolding u r c
-  entered-clocked =
-      record {
-        starts = λ none h. A-zero none;
-        rises = λ h. ⊎-elim (λ some. moves some .rises) (λ none. emptied (omega arith)) (le-or-lt 1 (t .head .total));
-      }
-    where
-      emptied : t .head .total ≡ 0 → t .head .sum * u .head .total ≤ u .head .sum * t .head .total
-      emptied none = rw (no-sum t (a .entries) (tied .matched) none) (omega arith)

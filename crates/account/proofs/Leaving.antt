@@ -14,19 +14,19 @@ use Rattle.rows.specs.declared.State.the-variants.{Free, Going, Asking}
 use Rattle.rows.specs.declared.Terms.{Terms}
 use Rattle.rows.specs.Numbers.{queues}
 use Rattle.rows.specs.Requests.{nextSet}
-use Rattle.rows.specs.Row.{blank, isFree, isAsking}
+use Rattle.rows.specs.Row.{blank, isFree, isAsking, weightIn as rowWeight, momentIn as rowMoment}
 use Rattle.rows.proofs.Virtual.{reached-yes, yes-reached}
 use Rattle.head.specs.Head.{sliced, emptyHead}
 use Rattle.share.specs.declared.Table.{Table}
 use Rattle.share.specs.Events.{emptyTable, leaving}
 use Rattle.share.specs.Release.{freed}
-use Rattle.share.specs.Table.{row, trueTotal, trueSum, AtMostV, reached, placed, withSlice, TrueSums}
-use Rattle.calls.proofs.OneDeparture.{weight-here}
+use Rattle.share.specs.Table.{row, trueTotal, trueSum, AtMostV, reached, placed, withSlice}
+use Rattle.calls.proofs.OneDeparture.{weight-here, asking-not-free}
+use Rattle.fractions.proofs.Values.{value-nothing}
 use Rattle.account.specs.Account.{Entry, absent, present, Account, entry, settled, goingAway, noOne}
 use Rattle.account.proofs.Match.{Alike, placed-total, placed-sum, set-both, match-set, blank-alike, placed-terms}
-use Rattle.account.proofs.Releases.{settled-yes, yes-settled, present-inside, W-left, freed-rises, freed-tied, live-at}
-use Rattle.account.proofs.Tied.{Held, Tied, Clocked}
-use Rattle.rows.specs.Row.{blank, isFree, isAsking, weightIn as rowWeight, momentIn as rowMoment}
+use Rattle.account.proofs.Releases.{settled-yes, yes-settled, present-inside, present-weighs, freed-tied, live-at}
+use Rattle.account.proofs.Tied.{Held, Tied}
 use Rattle.account.specs.Account as Acc
 
 -- a slice given out or taken in
@@ -43,6 +43,7 @@ slice-tied t a out holder ticks tied =
             alike = tied .matched .alike;
           };
       live = λ h. record { clock = tied .live h .clock; held = tied .live h .held };
+      rests = tied .rests;
     }
 
 -- no row and no one
@@ -67,13 +68,17 @@ fresh-tied terms =
             alike = λ j. rw (at-replicate queues j blank, at-replicate queues j absent) blank-alike;
           };
       live = λ h. absurd (omega arith);
+      rests = λ h. value-nothing 0 1 (omega arith);
     }
 
 same-numbers : (x y w w' p p' : ℕ) → x + w * p ≡ y + w' * p' → w' ≡ w → p' ≡ p → x ≡ y
 same-numbers x y w w' p p' e f g = let k : x + w * p ≡ y + w * p = rw (f, g) at e in omega arith
 
 -- a row set to another of the same weight at the same position, in both
-module _ (t : Table) (a : Account) (i : ℕ) (tied : Tied t a) (inside : i < length (t .rows)) (r : Row) (e : Entry) (same-part : rowWeight r ≡ rowWeight (row t i)) (same-place : r .position ≡ row t i .position) (like : Alike r e) (keeps : (A W : ℕ) → Held A W (row t i) (entry a i) → Held A W r e) where
+module _ (t : Table) (a : Account) (i : ℕ) (tied : Tied t a) (here : isFree (row t i .state) ≡ false) (r : Row) (e : Entry) (same-part : rowWeight r ≡ rowWeight (row t i)) (same-place : r .position ≡ row t i .position) (like : Alike r e) (keeps : (A W : ℕ) → Held A W (row t i) (entry a i) → Held A W r e) where
+  inside : i < length (t .rows)
+  inside = present-inside t i here
+
   W-same : placed t i r .head .total ≡ t .head .total
   W-same = omega (arith, placed-total t i r (tied .matched .sums) inside)
 
@@ -87,7 +92,7 @@ module _ (t : Table) (a : Account) (i : ℕ) (tied : Tied t a) (inside : i < len
   kept-tied =
       record {
         same-terms = tied .same-terms ∙ sym (placed-terms t i r);
-        matched = match-set t (a .entries) i r e (omega (arith, tied .matched .rows-each)) like (tied .matched);
+        matched = match-set t (a .entries) i r e (omega (arith, inside, tied .matched .rows-each)) like (tied .matched);
         live =
             λ h.
             let live = tied .live (omega (arith, W-same)) in
@@ -95,19 +100,12 @@ module _ (t : Table) (a : Account) (i : ℕ) (tied : Tied t a) (inside : i < len
               clock = rw (W-same, A-same) (live .clock);
               held =
                   set-both (Held (placed t i r .head .sum) (placed t i r .head .total)) t (a .entries) i r e inside
-                  (omega (arith, tied .matched .rows-each, tied .matched .entries-each))
+                  (omega (arith, inside, tied .matched .rows-each, tied .matched .entries-each))
                   (rw (W-same, A-same) (keeps (t .head .sum) (t .head .total) (live .held i)))
                   (λ j. rw (W-same, A-same) (live .held j));
             };
+        rests = λ none. absurd (omega (arith, W-same, present-weighs t a tied i here));
       }
-
-  pub kept-clocked : Clocked t (placed t i r)
-  kept-clocked = record { starts = λ none h. absurd (omega (arith, W-same)); rises = λ h. rw (W-same, A-same) (omega arith) }
-
-asks-present : (s : State) → isAsking s ≡ true → isFree s ≡ false
-asks-present Free e = absurd (clash e refl)
-asks-present Going e = refl
-asks-present (Asking q) e = refl
 
 -- a queue that leaves owing time
 abbrev gone : Row → Row
@@ -140,18 +138,13 @@ entry-alike : (t : Table) (a : Account) (i : ℕ) → Tied t a → Alike (row t 
 unfolding entry
 entry-alike t a i tied = tied .matched .alike i
 
-freed-clocked : (t : Table) (i : ℕ) → TrueSums t → i < length (t .rows) → AtMostV t (row t i .position) → Clocked t (placed t i blank)
-unfolding freed
-freed-clocked t i sums inside level =
-    record { starts = λ none h. absurd (omega (arith, W-left t i sums inside)); rises = λ h. freed-rises t i sums inside level }
-
 freeing : (t : Table) (a : Account) (i : ℕ) → Tied t a → isFree (row t i .state) ≡ false → AtMostV t (row t i .position) → Tied (placed t i blank) (Acc.freed a i)
 unfolding freed
 freeing t a i tied here level = freed-tied t a i tied here level
 
 module _ (t : Table) (a : Account) (i : ℕ) (tied : Tied t a) (asks : isAsking (row t i .state) ≡ true) where
   here : isFree (row t i .state) ≡ false
-  here = asks-present (row t i .state) asks
+  here = asking-not-free (row t i .state) asks
 
   -- the sign of the account is the table's test
   pub settled-is : settled (entry a i) ≡ reached t (row t i .position)
@@ -179,20 +172,9 @@ module _ (t : Table) (a : Account) (i : ℕ) (tied : Tied t a) (asks : isAsking 
       by : (b : Bool) → reached t (row t i .position) ≡ b → Tied (placed t i (cond b blank (gone (row t i)))) (cond b (Acc.freed a i) (record { entries = set (a .entries) i (goingAway (getD (a .entries) i absent)); virtual = a .virtual; terms = a .terms }))
       by true e = freeing t a i tied here (reached-yes (row t i .position) (t .head .total) (t .head .sum) e)
       by false e =
-          kept-tied t a i tied (present-inside t i here) (gone (row t i)) (goingAway (getD (a .entries) i absent)) (going-part (row t i) here) refl
+          kept-tied t a i tied here (gone (row t i)) (goingAway (getD (a .entries) i absent)) (going-part (row t i) here) refl
           (gone-alike (row t i) (getD (a .entries) i absent) here (tied .matched .alike i))
           (λ A W. gone-held (row t i) (getD (a .entries) i absent) A W here)
-
-  pub left-clocked : Clocked t (placed t i (leaving t (row t i)))
-  unfolding leaving
-  left-clocked = by (reached t (row t i .position)) refl
-    where
-      by : (b : Bool) → reached t (row t i .position) ≡ b → Clocked t (placed t i (cond b blank (gone (row t i))))
-      by true e = freed-clocked t i (tied .matched .sums) (present-inside t i here) (reached-yes (row t i .position) (t .head .total) (t .head .sum) e)
-      by false e =
-          kept-clocked t a i tied (present-inside t i here) (gone (row t i)) (goingAway (entry a i)) (going-part (row t i) here) refl
-          (gone-alike (row t i) (entry a i) here (entry-alike t a i tied))
-          (λ A W. gone-held (row t i) (entry a i) A W here)
 
 -- a length for the next request
 abbrev next-row : Row → ℕ → Row
@@ -233,18 +215,10 @@ next-held : (r : Row) (n : ℕ) (e : Entry) (A W : ℕ) → Held A W r e → Hel
 next-held r n absent A W h = record { lags = rw (next-part r n) (h .lags); bounded = tt }
 next-held r n (present q) A W h = record { lags = rw (next-part r n) (h .lags); bounded = rw (next-part r n) (h .bounded) }
 
-pub lengthened-tied : (t : Table) (a : Account) (i n : ℕ) → Tied t a → i < queues → Tied (placed t i (next-row (row t i) n)) (Acc.lengthened a i n)
+pub lengthened-tied : (t : Table) (a : Account) (i n : ℕ) → Tied t a → isAsking (row t i .state) ≡ true → Tied (placed t i (next-row (row t i) n)) (Acc.lengthened a i n)
 unfolding Acc.lengthened entry
-lengthened-tied t a i n tied numbered =
-    kept-tied t a i tied (omega (arith, tied .matched .rows-each)) (next-row (row t i) n) (Acc.nextSet (getD (a .entries) i absent) n)
-    (next-part (row t i) n) refl
-    (next-alike (row t i .state) (row t i .weight) (row t i .position) n (getD (a .entries) i absent) (tied .matched .alike i))
-    (λ A W. next-held (row t i) n (getD (a .entries) i absent) A W)
-
-pub lengthened-clocked : (t : Table) (a : Account) (i n : ℕ) → Tied t a → i < queues → Clocked t (placed t i (next-row (row t i) n))
-unfolding entry
-lengthened-clocked t a i n tied numbered =
-    kept-clocked t a i tied (omega (arith, tied .matched .rows-each)) (next-row (row t i) n) (Acc.nextSet (getD (a .entries) i absent) n)
+lengthened-tied t a i n tied asks =
+    kept-tied t a i tied (asking-not-free (row t i .state) asks) (next-row (row t i) n) (Acc.nextSet (getD (a .entries) i absent) n)
     (next-part (row t i) n) refl
     (next-alike (row t i .state) (row t i .weight) (row t i .position) n (getD (a .entries) i absent) (tied .matched .alike i))
     (λ A W. next-held (row t i) n (getD (a .entries) i absent) A W)

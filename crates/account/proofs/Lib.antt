@@ -16,7 +16,7 @@ pub mod Leaving
 pub mod Clearing
 -- every step, and so every run, keeps the tie
 pub mod Simulation
--- V starts at 0 and never falls
+-- V never falls
 pub mod Clock
 -- what a tie says: the reported lags are the accounts, and add up to nothing
 pub mod Reports

@@ -1,6 +1,6 @@
 -- Table and account side by side, row by row, but for the fractions: who is present, who is going, the weights and the requests. From that and
 -- the true sums of the table, W is the same in both. It is kept by setting a row in both and by giving every entry a gain.
-use mathlib.Core.Bool.{false, cond}
+use mathlib.Core.Bool.{false}
 use mathlib.Core.List.{List, [], _∷_}
 use mathlib.Core.Path.{_≡_, refl, _∙_}
 use Prim.Native.Nat.{ℕ, zero, suc, _+_, _*_, _≤_, _<_}
@@ -16,14 +16,14 @@ use Rattle.rows.specs.declared.Row.{Row}
 use Rattle.rows.specs.declared.State.{State}
 use Rattle.rows.specs.declared.State.the-variants.{Free, Going, Asking}
 use Rattle.rows.specs.Numbers.{queues}
-use Rattle.rows.specs.Row.{blank, isFree, isGoing}
+use Rattle.rows.specs.Row.{blank, isFree, isGoing, weightIn as rowWeight, momentIn as rowMoment}
 use Rattle.head.specs.Head.{summed}
+use Rattle.rows.proofs.Shares.{moment-is}
 use Rattle.share.specs.declared.Table.{Table}
 use Rattle.share.specs.Table.{row, trueTotal, trueSum, placed, TrueSums}
 use Rattle.share.proofs.Placed.{placed-length, placed-same, placed-other, placed-true}
 use Rattle.fractions.specs.Fraction.{Fraction}
 use Rattle.account.specs.Account.{Entry, absent, present, isAbsent, weightOf, weightIn, credited, gaining, allGain}
-use Rattle.rows.specs.Row.{blank, isFree, isGoing, weightIn as rowWeight, momentIn as rowMoment}
 use Rattle.account.specs.Account as Acc
 
 -- an asking row's request, as the account has it from the lengths in the run
@@ -54,16 +54,6 @@ pub record Match (t : Table) (es : List Entry) : Type 0 where
   pub entries-each : length es ≡ queues
   pub sums : TrueSums t
   pub alike : (j : ℕ) → Alike (row t j) (getD es j absent)
-
--- a row's part in A is its part in W times its position
-moment-as : (s : State) (w p : ℕ) → cond (isFree s) 0 (w * p) ≡ cond (isFree s) 0 w * p
-moment-as Free w p = omega arith
-moment-as Going w p = refl
-moment-as (Asking q) w p = refl
-
-pub moment-is : (r : Row) → rowMoment r ≡ rowWeight r * r .position
-unfolding rowMoment rowWeight
-moment-is r = moment-as (r .state) (r .weight) (r .position)
 
 -- equal parts, equal sums
 same-sums {ℓ κ} : {A : Type ℓ} {B : Type κ} (f : A → ℕ) (g : B → ℕ) (xs : List A) (ys : List B) (d : A) (e : B) → length xs ≡ length ys → ((j : ℕ) → f (getD xs j d) ≡ g (getD ys j e)) → sumOf f xs ≡ sumOf g ys

@@ -28,7 +28,6 @@ use Rattle.share.proofs.Accepted.{reweight-accepted}
 use Rattle.calls.proofs.Replies.{call-cases}
 use Rattle.fractions.specs.Fraction.{Fraction, whole, nothing, minus, _~_}
 use Rattle.fractions.proofs.Laws.{turned, through, at-most-same}
-use Rattle.fractions.proofs.Values.{same-value}
 use Rattle.account.specs.Account.{Entry, absent, present, Queue, Account, entry, isAbsent, owedTo, weightIn, credited, gaining, allGain, reopened, servedMore, rest, settled, goingAway, newcomer, enteredBeside, enteredAlone, noOne, made}
 use Rattle.account.specs.Books.{Clears, BookedAs, Books, none-left}
 use Rattle.account.specs.Changes.{Change, begins, joins, leaves, lengthens, returns, endsInRelease}
@@ -36,7 +35,7 @@ use Rattle.account.specs.Counted.{countedOf, counted, changes, tableAfte
 use Rattle.account.specs.Same.{noted, unpriced, Same}
 use Rattle.account.proofs.Leaving.{fresh-tied}
 use Rattle.account.proofs.Match.{same-weight, gain-at}
-use Rattle.account.proofs.Reports.{lag-account}
+use Rattle.account.proofs.Reports.{lag-account, clock-is}
 use Rattle.account.proofs.Simulation.{leave-tied, books-one, books-two, books-split, refused-counts, step-tied, tied-run, meantIn, same-meant}
 use Rattle.account.proofs.Tied.{Tied}
 use Rattle.account.specs.Account as Acc
@@ -100,6 +99,9 @@ module _ (t : Table) (a b : Account) (ta : Tied t a) (tb : Tied t b) where
 
   pub same-owed : (i : ℕ) → owedTo (entry a i) ~ owedTo (entry b i)
   same-owed i = through (turned (lag-account t a ta i)) (lag-account t b tb i)
+
+  pub same-clock : a .virtual ~ b .virtual
+  same-clock = through (clock-is t a ta) (turned (clock-is t b tb))
 
   same-settled : (i : ℕ) → settled (entry a i) ≡ settled (entry b i)
   unfolding settled
@@ -283,8 +285,5 @@ any-order terms calls a b way through =
       terms-same = ta .same-terms ∙ sym (tb .same-terms);
       entries-same = run-twins calls (emptyTable terms) (noOne terms) (noOne terms) a b (fresh-tied terms) (fresh-tied terms) (record { each = λ j. refl }) way through .each;
       owed-same = same-owed (tableAfter terms calls) a b ta tb;
-      virtual-same =
-          λ some.
-          let W : 0 < tableAfter terms calls .head .total = omega (arith, same-weight (ta .matched)) in
-          same-value (ta .live W .clock) (tb .live W .clock);
+      virtual-same = same-clock (tableAfter terms calls) a b ta tb;
     }

@@ -28,8 +28,7 @@ use Rattle.share.proofs.Totals.{sums-true}
 use Rattle.calls.proofs.Answering.{step-done}
 use Rattle.calls.proofs.Exactly.{becomes}
 use Rattle.calls.proofs.Meaning.{accepted-none}
-use Rattle.calls.proofs.Standing.{going-there}
-use Rattle.calls.proofs.OneDeparture.{asking-not-free, weight-here, moment-here}
+use Rattle.calls.proofs.OneDeparture.{asking-not-free, going-not-free, weight-here, moment-here}
 use Rattle.fractions.specs.Fraction.{_⊕_, _~_}
 use Rattle.fractions.proofs.Laws.{through, turned, sum-same, sum-nothing, sum-grouped}
 use Rattle.fractions.proofs.Values.{Value, value-over, value-portion, value-sum, value-change, same-value}
@@ -105,7 +104,7 @@ passes-all-once {t} (one i r rest) j sums at-end some =
     let left : 0 < freed t i .head .total = omega (arith, W-falls true-sums rest) in
     let apart = apart-from t i j (still-there j rest at-end) in
     through (passes-all-once rest j true-sums at-end some)
-    (through (sum-same (passes-once t i j sums (ready-inside t i r) (going-there (row t i .state) (r .going)) apart left) (Laws.same (givenBy rest j)))
+    (through (sum-same (passes-once t i j sums (ready-inside t i r) (going-not-free (row t i .state) (r .going)) apart left) (Laws.same (givenBy rest j)))
     (sum-grouped (lagIn t j) (given t i j) (givenBy rest j)))
 
 -- a leave that frees: the leaver's share first, then those of the rows that it lets go

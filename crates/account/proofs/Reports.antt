@@ -9,9 +9,10 @@ use Prim.Native.Nat.{ℕ, _+_, _*_, _≤_, _<_}
 use native.Mathlib.Nat.{mul-pos}
 use native.Mathlib.Omega.{arith}
 use lib.IntN.{ℤ, pos}
+use lib.Dec.{eqb}
 use lib.ListN.{length, getD, take, drop, length-map, List·getD-map, List·getD-append}
 use lib.Seq.{take-at}
-use borrow.Author.Tests.{le-ltb}
+use borrow.Author.Tests.{le-ltb, eq-eqb, ne-eqb}
 use Rattle.laws.specs.Difference.{_⊖_}
 use Rattle.laws.specs.Lists.{sumOf}
 use Rattle.laws.proofs.Tests.{le-or-lt}
@@ -19,9 +20,11 @@ use Rattle.rows.specs.declared.Row.{Row}
 use Rattle.rows.specs.declared.State.{State}
 use Rattle.rows.specs.declared.State.the-variants.{Free, Going, Asking}
 use Rattle.rows.specs.Numbers.{queues, unit}
-use Rattle.rows.specs.Row.{blank, isFree}
+use Rattle.rows.specs.Row.{blank, isFree, weightIn as rowWeight, momentIn as rowMoment}
+use Rattle.rows.proofs.Shares.{moment-is, free-weighs-nothing}
 use Rattle.head.specs.declared.Answer.the-variants.{Reported}
 use Rattle.head.specs.Answers.{denominatorGiven}
+use Rattle.head.specs.Head.{isEmpty}
 use Rattle.head.specs.Lag.{lagOf, lagUnit}
 use Rattle.head.specs.Refusals.{firstOf}
 use Rattle.share.specs.declared.Table.{Table}
@@ -29,9 +32,10 @@ use Rattle.share.specs.Calls.{lagChecks, lagReply, lagList}
 use Rattle.share.specs.LagList.{lagsInto}
 use Rattle.share.specs.Sound.{Sound}
 use Rattle.share.specs.Table.{row, trueTotal, trueSum, placed}
+use Rattle.share.proofs.Placed.{no-weight, no-sum}
 use Rattle.share.proofs.Sound.{says-sound}
 use Rattle.share.proofs.Stepping.{call-accepted}
-use Rattle.fractions.specs.Fraction.{over-above, _÷_, nothing, _~_, total}
+use Rattle.fractions.specs.Fraction.{over-above, _÷_, whole, nothing, _~_, total}
 use Rattle.fractions.specs.Signed.{summed}
 use Rattle.fractions.proofs.Differences.{Is, itself, difference-is, equal-is, summed-is}
 use Rattle.fractions.proofs.Laws.{same}
@@ -39,11 +43,9 @@ use Rattle.fractions.proofs.Values.{value-any-over, value-over, value-whole, va
 use Rattle.account.specs.Account.{Entry, absent, present, Queue, Account, entry, owedTo, rest, weightLeft}
 use Rattle.account.specs.Bound.{tooLow}
 use Rattle.account.specs.Report.{virtualTime, lagIn, reported}
-use Rattle.account.proofs.Entering.{free-weighs-nothing, no-weight, no-sum}
-use Rattle.account.proofs.Match.{Alike, moment-is, same-weight, placed-total, placed-sum, match-set, blank-alike}
+use Rattle.account.proofs.Match.{Alike, same-weight, placed-total, placed-sum, match-set, blank-alike}
 use Rattle.account.proofs.Releases.{present-inside, live-at}
 use Rattle.account.proofs.Tied.{Held, Tied}
-use Rattle.rows.specs.Row.{blank, isFree, weightIn as rowWeight, momentIn as rowMoment}
 
 -- the numerator of a row's lag, in the row's part of W
 lag-as : (s : State) (w A W p : ℕ) → Is (cond (isFree s) (pos 0) (w * A ⊖ w * (W * p))) (cond (isFree s) 0 w * A) (cond (isFree s) 0 w * (W * p))
@@ -65,11 +67,11 @@ level-numbers A W w p D e f = rw (e, f) (omega arith)
 
 module _ (t : Table) (a : Account) (tied : Tied t a) where
   no-one-owed : t .head .total ≡ 0 → (i : ℕ) → owedTo (getD (a .entries) i absent) ≡ nothing
-  no-one-owed no-one i = absent-owes (row t i) _ (tied .matched .alike i) (no-weight t (a .entries) (tied .matched) no-one i)
+  no-one-owed no-one i = absent-owes (row t i) _ (tied .matched .alike i) (no-weight t (tied .matched .sums) no-one i)
 
   no-lag : t .head .total ≡ 0 → (i : ℕ) → Is (lagOf (t .head) (row t i)) 0 0
   no-lag no-one i =
-      record { same = omega (arith, rw (no-weight t (a .entries) (tied .matched) no-one i) at (lag-is t (row t i) .same)) }
+      record { same = omega (arith, rw (no-weight t (tied .matched .sums) no-one i) at (lag-is t (row t i) .same)) }
 
   -- the lag that the table has is the account
   pub lag-account : (i : ℕ) → lagIn t i ~ owedTo (entry a i)
@@ -158,7 +160,7 @@ module _ (t : Table) (a : Account) (tied : Tied t a) where
       (value-change (held .lags .positive)
       (level-numbers (t .head .sum) (t .head .total) (rowWeight (row t i)) (row t i .position) (t .head .total * unit)
       (omega (arith, placed-total t i blank (tied .matched .sums) inside, free-weighs-nothing blank refl))
-      (alone-sum (placed-sum t i blank (tied .matched .sums) inside) (no-sum (placed t i blank) _ others W)))
+      (alone-sum (placed-sum t i blank (tied .matched .sums) inside) (no-sum (placed t i blank) (others .sums) W)))
       (held .lags))
       (value-nothing 0 (t .head .total * unit) (held .lags .positive))
     where
@@ -166,9 +168,19 @@ module _ (t : Table) (a : Account) (tied : Tied t a) where
       alone-sum x y = omega (arith, rw (free-weighs-nothing blank refl) at x)
 
   -- V
-  pub clock-is : 0 < t .head .total → a .virtual ~ virtualTime t
-  unfolding virtualTime
-  clock-is h = same-value (tied .live h .clock) (value-over (t .head .total) h (itself (pos (t .head .sum))))
+  pub clock-is : a .virtual ~ virtualTime t
+  unfolding virtualTime isEmpty
+  clock-is = ⊎-elim beside alone (le-or-lt 1 (t .head .total))
+    where
+      beside : 1 ≤ t .head .total → a .virtual ~ cond (eqb (t .head .total) 0) (whole (t .head .resting)) (pos (t .head .sum) ÷ t .head .total)
+      beside h =
+          rw (ne-eqb (t .head .total) 0 (λ e. omega arith))
+          (same-value (tied .live h .clock) (value-over (t .head .total) h (itself (pos (t .head .sum)))))
+
+      alone : t .head .total < 1 → a .virtual ~ cond (eqb (t .head .total) 0) (whole (t .head .resting)) (pos (t .head .sum) ÷ t .head .total)
+      alone h =
+          let no-one : t .head .total ≡ 0 = omega arith in
+          rw (eq-eqb (t .head .total) 0 no-one) (same-value (tied .rests no-one) (value-whole (t .head .resting)))
 
 -- the lag report of a sound table, on a list that is long enough
 module _ (t : Table) (lent : List ℤ) (sound-table : Sound t) (rows-each : length (t .rows) ≡ queues) (long : queues ≤ length lent) where

@@ -15,16 +15,16 @@ use Rattle.rows.specs.declared.Row.{Row}
 use Rattle.rows.specs.declared.State.the-variants.{Asking}
 use Rattle.rows.specs.Numbers.{queues, unit, maxWeight, stepOf}
 use Rattle.rows.specs.Requests.{opened, servedTo, charged}
-use Rattle.rows.specs.Row.{positionOf, chargedTo}
+use Rattle.rows.specs.Row.{positionOf, chargedTo, weightIn as rowWeight}
 use Rattle.rows.proofs.Steps.{weight-times-step}
 use Rattle.share.specs.declared.Table.{Table}
 use Rattle.share.specs.Table.{row, placed}
+use Rattle.share.proofs.Placed.{weight-within}
 use Rattle.fractions.specs.Fraction.{whole, _⊕_, portion}
 use Rattle.fractions.proofs.Values.{value-whole, value-minus, value-sum, value-change}
 use Rattle.account.specs.Account.{Entry, absent, present, Queue, Account, allGain, reopened, servedMore}
 use Rattle.account.proofs.Match.{Alike, Match, same-weight, placed-total, placed-sum, set-both, match-set, match-gain, credited-alike, placed-terms}
-use Rattle.account.proofs.Tied.{Held, Live, Tied, Clocked, Moves, moved-clock, moved}
-use Rattle.rows.specs.Row.{positionOf, chargedTo, weightIn as rowWeight}
+use Rattle.account.proofs.Tied.{Held, Live, Tied, Moves, moved-clock, moved}
 use Rattle.account.specs.Account as Acc
 
 abbrev asking : ℕ → ℕ → Request → Row
@@ -232,9 +232,5 @@ module _ (t : Table) (a : Account) (i used : ℕ) (early : Bool) (w p : ℕ) (q 
             match-set t gained i r (Acc.charged (getD gained i absent) used early) numbered
             (charged-alike w p q (getD gained i absent) used early holder-alike) gained-match;
         live = alive;
+        rests = λ none. absurd (omega (arith, W-same, row-weight, weight-within t i (tied .matched .sums) inside, c .light));
       })
-
-  pub returned-clocked : Clocked t (placed t i (charged (asking w p q) used early))
-  unfolding u r
-  returned-clocked =
-      record { starts = λ none h. absurd (omega (arith, W-same)); rises = λ h. rw (W-same, A-charged) (omega arith) }

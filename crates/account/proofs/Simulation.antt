@@ -35,11 +35,11 @@ use Rattle.account.specs.Account.{Account, made, noOne}
 use Rattle.account.specs.Books.{Clears, BookedAs, Books, none-left, next-change}
 use Rattle.account.specs.Changes.{Change, endsInRelease}
 use Rattle.account.specs.Counted.{countedOf, counted, changes, tableAfter}
-use Rattle.account.proofs.Entering.{entered-tied, entered-clocked}
-use Rattle.account.proofs.Leaving.{slice-tied, fresh-tied, left-tied, left-clocked, lengthened-tied, lengthened-clocked}
-use Rattle.account.proofs.Releases.{released-tied, released-clocked}
-use Rattle.account.proofs.Returning.{Charges, returned-tied, returned-clocked}
-use Rattle.account.proofs.Tied.{Tied, Clocked}
+use Rattle.account.proofs.Entering.{entered-tied}
+use Rattle.account.proofs.Leaving.{slice-tied, fresh-tied, left-tied, lengthened-tied}
+use Rattle.account.proofs.Releases.{released-tied}
+use Rattle.account.proofs.Returning.{Charges, returned-tied}
+use Rattle.account.proofs.Tied.{Tied}
 use Rattle.account.specs.Account as Acc
 
 -- a length means the same to both, since they have the same terms
@@ -57,30 +57,13 @@ join-tied t a b i w l tied j way =
     (entered-tied t a i w (meant t l) tied (j .inside) (j .free) (j .weight-low) (j .weight-high) (meant-low (t .head .terms) l))
     (subst (λ (n : ℕ). Clears (Acc.entered a i w n) b) (same-meant t a l tied) way)
 
-pub join-clocked : (t : Table) (a : Account) (i w l : ℕ) → Tied t a → Joins t i w l → Clocked t (joined t i w l)
-unfolding joined
-join-clocked t a i w l tied j =
-    let light = meant-low (t .head .terms) l in
-    released-clocked t (placed t i (entering w (entry (t .head)) (meant t l)))
-    (entered-tied t a i w (meant t l) tied (j .inside) (j .free) (j .weight-low) (j .weight-high) light .matched .sums)
-    (entered-clocked t a i w (meant t l) tied (j .inside) (j .free) (j .weight-low) (j .weight-high) light)
-
 pub leave-tied : (t : Table) (a b : Account) (i : ℕ) → Tied t a → Leaves t i → Clears (Acc.left a i) b → Tied (left t i) b
 unfolding left
 leave-tied t a b i tied l way = released-tied (placed t i (leaving t (row t i))) (left-tied t a i tied (l .asks)) way
 
-pub leave-clocked : (t : Table) (a : Account) (i : ℕ) → Tied t a → Leaves t i → Clocked t (left t i)
-unfolding left
-leave-clocked t a i tied l =
-    released-clocked t (placed t i (leaving t (row t i))) (left-tied t a i tied (l .asks) .matched .sums) (left-clocked t a i tied (l .asks))
-
 pub length-tied : (t : Table) (a : Account) (i l : ℕ) → Tied t a → Lengthens t i l → Tied (lengthSet t i l) (Acc.lengthened a i (meantIn a l))
 unfolding lengthSet rowNextSet
-length-tied t a i l tied h = rw (same-meant t a l tied) (lengthened-tied t a i (meant t l) tied (h .leaves .inside))
-
-pub length-clocked : (t : Table) (a : Account) (i l : ℕ) → Tied t a → Lengthens t i l → Clocked t (lengthSet t i l)
-unfolding lengthSet rowNextSet
-length-clocked t a i l tied h = lengthened-clocked t a i (meant t l) tied (h .leaves .inside)
+length-tied t a i l tied h = rw (same-meant t a l tied) (lengthened-tied t a i (meant t l) tied (h .leaves .asks))
 
 abbrev as-asking : Row → Request → Row
 as-asking r q = record { weight = r .weight; position = r .position; state = Asking q }
@@ -125,23 +108,10 @@ module _ (t : Table) (a : Account) (i used : ℕ) (early : Bool) (tied : Tied t 
       (returned-tied taken a i used early (row t i .weight) (row t i .position) q (slice-tied t a false 0 0 tied) (slice-row t i ∙ at) (r .inside)
       (charges t i used r))
 
-  charged-clocked : Clocked taken (placed taken i (charged (row t i) used early))
-  unfolding taken q
-  charged-clocked =
-      subst⁻¹ (λ (x : Row). Clocked taken (placed taken i (charged x used early))) at
-      (returned-clocked taken a i used early (row t i .weight) (row t i .position) q (slice-tied t a false 0 0 tied) (slice-row t i ∙ at)
-      (r .inside) (charges t i used r))
-
 pub return-tied : (t : Table) (a b : Account) (i used : ℕ) (early : Bool) → Tied t a → Returns t i used → Clears (Acc.returned a i used early) b → Tied (returned t i used early) b
 unfolding returned taken
 return-tied t a b i used early tied r way =
     released-tied (placed (withSlice t false 0 0) i (charged (row t i) used early)) (charged-tied t a i used early tied r) way
-
-pub return-clocked : (t : Table) (a : Account) (i used : ℕ) (early : Bool) → Tied t a → Returns t i used → Clocked t (returned t i used early)
-unfolding returned taken withSlice sliced
-return-clocked t a i used early tied r =
-    let c = released-clocked (withSlice t false 0 0) (placed (withSlice t false 0 0) i (charged (row t i) used early)) (charged-tied t a i used early tied r .matched .sums) (charged-clocked t a i used early tied r) in
-    record { starts = c .starts; rises = c .rises }
 
 -- what a list of changes may be booked as, taken apart
 pub books-none : {a b : Account} (t : Table) → Tied t a → Books a [] b → Tied t b

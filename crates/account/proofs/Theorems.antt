@@ -1,12 +1,13 @@
 -- Over any run of calls from a fresh table, refused calls counting as nothing: what the account and the table have to do with one another. (6, that
 -- an event alters only the rows that it names or releases, is in `Frames`; 7, that a departure counts once, in `Departures` and `Twice`.) Table and
 -- account are tied after every list of calls (`Simulation`), and each theorem reads off what the tie says.
-use mathlib.Core.Bool.{false, not}
-use mathlib.Core.List.{List, map}
+use mathlib.Core.Bool.{true, false, not}
+use mathlib.Core.List.{List, map, _++_}
 use mathlib.Core.Path.{_≡_, refl, ap, sym}
 use Prim.Native.Nat.{ℕ, _≤_, _<_}
 use lib.IntN.{ℤ, pos}
 use lib.ListN.{length, take}
+use Rattle.laws.specs.Lists.{all}
 use Rattle.laws.proofs.Tests.{clash}
 use Rattle.rows.specs.declared.State.{State}
 use Rattle.rows.specs.declared.State.the-variants.{Free, Going, Asking}
@@ -21,19 +22,20 @@ use Rattle.share.specs.Events.{emptyTable}
 use Rattle.share.specs.Sound.{Sound}
 use Rattle.share.specs.Table.{row}
 use Rattle.calls.proofs.Soundness.{run-sound}
-use Rattle.fractions.specs.Fraction.{nothing, _~_, total}
+use Rattle.fractions.specs.Fraction.{nothing, _~_, atMost, total}
 use Rattle.fractions.specs.Signed.{summed}
+use Rattle.fractions.proofs.Laws.{turned, at-most-like}
 use Rattle.account.specs.Account.{Entry, absent, present, Queue, Account, entry, isAbsent, owedTo, weightLeft, noOne}
 use Rattle.account.specs.Agrees.{Agrees}
 use Rattle.account.specs.Books.{Books}
 use Rattle.account.specs.Bound.{tooLow}
-use Rattle.account.specs.Clock.{Steady}
+use Rattle.account.specs.Clock.{goesOn}
 use Rattle.account.specs.Counted.{changes, accountOf, tableAfter}
 use Rattle.account.specs.Longest.{longestSeen}
 use Rattle.account.specs.Report.{virtualTime, lagIn, reported}
 use Rattle.account.specs.Same.{Same}
 use Rattle.account.proofs.Clearing.{account-books}
-use Rattle.account.proofs.Clock.{clock-steady}
+use Rattle.account.proofs.Clock.{further-rises}
 use Rattle.account.proofs.Simulation.{tied-run}
 use Rattle.account.proofs.Tied.{Tied}
 use Rattle.account.specs.Account as Acc
@@ -66,13 +68,9 @@ module _ (terms : Terms) (calls : List Event) where
   pub lag-is-account : (i : ℕ) → lagIn (tableAfter terms calls) i ~ owedTo (entry (accountOf terms calls) i)
   lag-is-account i = Reports.lag-account (tableAfter terms calls) (accountOf terms calls) tied i
 
-  -- 3. The account's V is A / W while the table is not empty; it starts at 0 with each entry into an empty table, and never falls while the table
-  -- is not empty.
-  pub same-V : 0 < tableAfter terms calls .head .total → accountOf terms calls .virtual ~ virtualTime (tableAfter terms calls)
+  -- 3. The account's V is the table's: A / W while rows are present, and the resting position while not.
+  pub same-V : accountOf terms calls .virtual ~ virtualTime (tableAfter terms calls)
   same-V = Reports.clock-is (tableAfter terms calls) (accountOf terms calls) tied
-
-  pub V-steady : Steady (noOne terms) (changes terms calls)
-  V-steady = clock-steady terms calls
 
   -- 4. The accounts add up to nothing, and so do the lags of the rows.
   pub accounts-level : total (map owedTo (accountOf terms calls .entries)) ~ nothing
@@ -97,6 +95,12 @@ module _ (terms : Terms) (calls : List Event) where
   pub any-order : (a : Account) → Books (noOne terms) (changes terms calls) a → Same a (accountOf terms calls)
   unfolding accountOf
   any-order a way = Orders.any-order terms calls a _ way (account-books (noOne terms) (changes terms calls))
+
+-- 3, from one point of a run to any later one: V does not fall, whether or not the table was empty between.
+pub V-steady : (terms : Terms) (calls further : List Event) → all goesOn further ≡ true → atMost (virtualTime (tableAfter terms calls)) (virtualTime (tableAfter terms (calls ++ further))) ≡ true
+unfolding accountOf changes
+V-steady terms calls further h =
+    at-most-like (turned (same-V terms calls)) (turned (same-V terms (calls ++ further))) (further-rises (emptyTable terms) (noOne terms) calls further h)
 
 -- 2 and 4, of the lag report as the call hands it out, on a list that it does not refuse
 module _ (terms : Terms) (is-allowed : Allowed terms) (calls : List Event) (lent : List ℤ) (long : queues ≤ length lent) where

@@ -1,4 +1,4 @@
--- Table and account tied: beside `Match`, V is A / W, each account is the row's lag, and no account is as low as minus the longest request.
+-- Table and account tied: beside `Match`, V is A / W, or the resting position of an empty table, each account is the row's lag, and no account is as low as minus the longest request.
 -- An event moves V from A / W to A' / W'; a present row's lag then grows by its weight times that move, over 720,720, whatever the event. So
 -- one law, `moved`, serves every event: whoever gains a portion of f by weight is tied again, if f over n is that move.
 use mathlib.Core.List.{List}
@@ -9,14 +9,13 @@ use native.Mathlib.Omega.{arith}
 use lib.ListN.{getD}
 use Rattle.rows.specs.declared.Row.{Row}
 use Rattle.rows.specs.Numbers.{unit}
-use Rattle.rows.specs.Row.{blank}
+use Rattle.rows.specs.Row.{blank, weightIn as rowWeight}
 use Rattle.share.specs.declared.Table.{Table}
 use Rattle.share.specs.Table.{row}
 use Rattle.fractions.specs.Fraction.{Fraction, nothing, _⊕_, portion}
 use Rattle.fractions.proofs.Values.{Value, value-nothing, value-sum, value-portion, value-change}
 use Rattle.account.specs.Account.{Entry, absent, present, Account, weightOf, owedTo, credited, gaining, allGain}
 use Rattle.account.proofs.Match.{Match, gain-at}
-use Rattle.rows.specs.Row.{blank, weightIn as rowWeight}
 
 -- the account is the lag: weight x (A - W x position) over W x 720,720
 abbrev pub Lags : ℕ → ℕ → Row → Entry → Type 0
@@ -39,11 +38,7 @@ pub record Tied (t : Table) (a : Account) : Type 0 where
   pub same-terms : a .terms ≡ t .head .terms
   pub matched : Match t (a .entries)
   pub live : 0 < t .head .total → Live t a
-
--- V from one table to the next
-pub record Clocked (t u : Table) : Type 0 where
-  pub starts : t .head .total ≡ 0 → 0 < u .head .total → u .head .sum ≡ 0
-  pub rises : 0 < u .head .total → t .head .sum * u .head .total ≤ u .head .sum * t .head .total
+  pub rests : t .head .total ≡ 0 → Value (a .virtual) (t .head .resting) 0 1
 
 -- f = (x - y) / d over n is the move of V from A / W to A' / W', over 720,720; and V does not fall
 pub record Moves (A W A' W' : ℕ) (f : Fraction) (n : ℕ) : Type 0 where

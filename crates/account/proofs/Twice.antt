@@ -6,6 +6,7 @@ use Prim.Native.Nat.{ℕ}
 use native.Mathlib.Omega.{arith}
 use lib.IntN.{natAbs}
 use Rattle.rows.specs.Numbers.{lengthMeant, defaultOf, leastTerms}
+use Rattle.head.specs.Head.{isEmpty}
 use Rattle.share.proofs.Computes.{stepping}
 use Rattle.fractions.specs.Fraction.{_÷_, whole, nothing, _⊕_, minus, portion, _~_, atMost, ceilingOf}
 use Rattle.fractions.specs.Signed.{plus, times, opposite}
@@ -53,7 +54,7 @@ V-twice = record { cross = refl }
 
 -- "V is 720,720", in the table and in the account
 pub departed-V : virtualTime (tableAfter leastTerms eightLines) ~ whole 720720
-unfolding virtualTime _÷_ whole times
+unfolding virtualTime isEmpty _÷_ whole times
 departed-V = rw (table-sum, table-total) (record { cross = refl })
 
 pub account-V : accountOf leastTerms eightLines .virtual ~ whole 720720

@@ -194,9 +194,9 @@ enteredBeside a queue weight length =
     let W : ℕ = weightIn with-newcomer in
     record { entries = allGain gap W with-newcomer; virtual = a .virtual ⊕ portion above weight W; terms = a .terms }
 
--- "Into an empty table it enters with account 0." V "starts at 0 with each entry into an empty table".
+-- "Into an empty table it enters with account 0." V is as the last one to leave left it: T-02 has one V for the whole run.
 unfoldable pub enteredAlone : Account → ℕ → ℕ → ℕ → Account
-enteredAlone a queue weight length = record { entries = set (a .entries) queue (newcomer weight length nothing); virtual = nothing; terms = a .terms }
+enteredAlone a queue weight length = record { entries = set (a .entries) queue (newcomer weight length nothing); virtual = a .virtual; terms = a .terms }
 
 unfoldable pub entered : Account → ℕ → ℕ → ℕ → Account
 entered a queue weight length = cond (isEmpty a) (enteredAlone a queue weight length) (enteredBeside a queue weight length)

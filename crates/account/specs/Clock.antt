@@ -1,19 +1,27 @@
--- V from one account to the next.
-use mathlib.Core.Bool.{true}
-use mathlib.Core.List.{List, [], _∷_}
-use mathlib.Core.Path.{_≡_}
-use Prim.Native.Nat.{_<_}
-use Rattle.fractions.specs.Fraction.{nothing, _~_, atMost}
-use Rattle.account.specs.Account.{Account, weightIn}
-use Rattle.account.specs.Books.{booked}
-use Rattle.account.specs.Changes.{Change}
+-- T-02, "the account's V, which then never falls over a whole run": what goes on with a run. An accepted `S` begins a new one.
+use mathlib.Core.Bool.{Bool, true, false}
+use Rattle.head.specs.declared.Event.{Event}
+use Rattle.head.specs.declared.Event.the-variants.{Fresh, Join, Leave, Reweight, Length, Grant, Return}
+use Rattle.calls.specs.Public.{Call, event, release, report}
+use Rattle.account.specs.Changes.{Change, begins, joins, leaves, lengthens, returns}
 
--- "it starts at 0 with each entry into an empty table. While the table isn't empty V never falls."
-pub record GoesOn (before after : Account) : Type 0 where
-  pub starts : weightIn (before .entries) ≡ 0 → 0 < weightIn (after .entries) → after .virtual ~ nothing
-  pub never-falls : 0 < weightIn (before .entries) → 0 < weightIn (after .entries) → atMost (before .virtual) (after .virtual) ≡ true
+abbrev pub goesOn : Event → Bool
+goesOn (Fresh terms) = false
+goesOn (Join queue weight length) = true
+goesOn (Leave queue) = true
+goesOn (Reweight queue weight length) = true
+goesOn (Length queue length) = true
+goesOn Grant = true
+goesOn (Return queue used early) = true
 
--- so from each change of a list to the next
-abbrev pub Steady : Account → List Change → Type 0
-Steady a [] = Unit {0}
-Steady a (c ∷ cs) = GoesOn a (booked a c) × Steady (booked a c) cs
+abbrev pub callGoesOn : Call → Bool
+callGoesOn (event e) = goesOn e
+callGoesOn release = true
+callGoesOn (report lent) = true
+
+abbrev pub changeGoesOn : Change → Bool
+changeGoesOn (begins terms) = false
+changeGoesOn (joins queue weight length) = true
+changeGoesOn (leaves queue) = true
+changeGoesOn (lengthens queue length) = true
+changeGoesOn (returns queue used early) = true

@@ -9,7 +9,7 @@ pub mod Account
 pub mod Departures
 -- the release of the account, and the account of a list of changes
 pub mod Books
--- V from one account to the next
+-- what goes on with a run, over which V never falls
 pub mod Clock
 -- when two accounts are the same
 pub mod Same

@@ -1,18 +1,20 @@
 -- What the table says, as fractions: V, and the lags as they are reported.
+use mathlib.Core.Bool.{cond}
 use mathlib.Core.List.{List}
 use Prim.Native.Nat.{ℕ}
 use lib.IntN.{ℤ, pos}
 use lib.ListN.{getD}
 use Rattle.head.specs.Answers.{denominatorGiven}
+use Rattle.head.specs.Head.{isEmpty}
 use Rattle.head.specs.Lag.{lagOf, lagUnit}
 use Rattle.share.specs.declared.Table.{Table}
 use Rattle.share.specs.Calls.{lagReply, lagList}
 use Rattle.share.specs.Table.{row}
-use Rattle.fractions.specs.Fraction.{Fraction, _÷_}
+use Rattle.fractions.specs.Fraction.{Fraction, _÷_, whole}
 
--- "Virtual time V is the fraction A / W"
+-- "Virtual time V is the fraction A / W"; of an empty table it is the resting position (T-02)
 unfoldable pub virtualTime : Table → Fraction
-virtualTime t = pos (t .head .sum) ÷ t .head .total
+virtualTime t = cond (isEmpty (t .head)) (whole (t .head .resting)) (pos (t .head .sum) ÷ t .head .total)
 
 -- "weight x (A - W x position)" over "W x 720,720"
 unfoldable pub lagIn : Table → ℕ → Fraction

@@ -23,7 +23,7 @@ use Rattle.share.proofs.Accepted.{nothing-to-free}
 use Rattle.share.proofs.Release.{frees-released}
 use Rattle.share.proofs.Sound.{says-sound}
 use Rattle.share.proofs.Stepping.{call-accepted}
-use Rattle.share.proofs.Totals.{sums-true}
+use Rattle.share.proofs.Totals.{weighed}
 use Rattle.calls.specs.Public.{HandedBack, Call, event, release, report, answered, checksOn, doneOn, runCalls, tableOf, eventsOf}
 use Rattle.calls.proofs.Answering.{checks-ordered, done-accepted, report-table}
 use Rattle.calls.proofs.Applying.{Applies, ordered, first-lowest, release-ordered, lag-ordered}
@@ -66,7 +66,7 @@ refused-table t c h = by (firstOf (checksOn t c)) refl
 
 -- nothing is left to free in a sound table
 pub released-same : (t : Table) → Sound t → released t ≡ t
-released-same t is = sym (frees-released (sums-true (is .orderly-table)) (done (is .no-one-ready)))
+released-same t is = sym (frees-released (weighed (is .orderly-table)) (done (is .no-one-ready)))
 
 pub release-table : (t : Table) → releaseReply t .table ≡ t
 unfolding releaseReply

@@ -7,7 +7,7 @@ use Prim.Native.Nat.{ℕ, _*_, _<_}
 use native.Mathlib.Decide.{ℕ-discrete}
 use native.Mathlib.Omega.{arith}
 use lib.ListN.{length}
-use Rattle.laws.proofs.Tests.{clash, refuted, le-or-lt}
+use Rattle.laws.proofs.Tests.{clash, refuted, either, le-or-lt}
 use Rattle.rows.specs.declared.Row.{Row}
 use Rattle.rows.specs.declared.State.the-variants.{Going}
 use Rattle.rows.specs.Row.{blank, isFree, isGoing}
@@ -20,19 +20,21 @@ use Rattle.share.specs.declared.Table.{Table}
 use Rattle.share.specs.Asks.{Leaves}
 use Rattle.share.specs.Calls.{step, checksOf}
 use Rattle.share.specs.Events.{joined, leaving, left, reweighted}
-use Rattle.share.specs.Release.{done}
-use Rattle.share.specs.Sound.{Calm}
+use Rattle.share.specs.Release.{freed, Frees, done, released}
+use Rattle.share.specs.Sound.{Orderly, Calm}
 use Rattle.share.specs.Table.{row, reached, placed, AtMostV}
 use Rattle.share.proofs.Accepted.{leave-accepted, reweight-accepted, fails-at}
-use Rattle.share.proofs.Departing.{rejoins}
-use Rattle.share.proofs.Placed.{placed-same, placed-other, placed-true}
-use Rattle.share.proofs.Release.{frees-released}
+use Rattle.share.proofs.Departing.{leaving-orderly, rejoins}
+use Rattle.share.proofs.Keeps.{placed-keeps}
+use Rattle.share.proofs.Placed.{placed-same, placed-other, weight-within}
+use Rattle.share.proofs.Release.{frees-released, released-frees}
 use Rattle.share.proofs.Sound.{says-sound}
-use Rattle.share.proofs.Totals.{sums-true}
-use Rattle.calls.specs.Meaning.{SameSums, LeaveMeans, ReweightMeans}
+use Rattle.share.proofs.Totals.{sums-true, weighed}
+use Rattle.calls.specs.Meaning.{SameSums, ComesToRest, LeaveMeans, ReweightMeans}
 use Rattle.calls.proofs.Answering.{step-done}
-use Rattle.calls.proofs.OneDeparture.{going-keeps-W, going-keeps-A}
+use Rattle.calls.proofs.OneDeparture.{asking-not-free, going-keeps-W, going-keeps-A}
 use Rattle.calls.proofs.Releasing.{put-row, put-slice, put-terms, put-release}
+use Rattle.calls.proofs.Resting.{comes-to-rest, release-ends, freed-heavy, orderly-heavy}
 use Rattle.calls.proofs.Meaning.{accepted-none}
 
 -- Leave.
@@ -95,7 +97,10 @@ module _ (t : Table) (queue : ℕ) (l : Leaves t queue) where
     left-between : between ≡ left t queue
     unfolding left
     left-between =
-        frees-released (placed-true t queue (leaving t (row t queue)) inside-rows (sums-true (l .was-sound .orderly-table))) (done between-calm)
+        let o = l .was-sound .orderly-table in
+        frees-released
+        (weighed (placed-keeps t queue (leaving t (row t queue)) (l .still) o (l .inside) (leaving-orderly t (row t queue) (l .asks) (o .each queue))))
+        (done between-calm)
 
     left-going : row (left t queue) queue ≡ goneFrom (row t queue)
     left-going = subst (λ (u : Table). row u queue ≡ goneFrom (row t queue)) left-between between-row
@@ -105,6 +110,35 @@ module _ (t : Table) (queue : ℕ) (l : Leaves t queue) where
 
     left-others : (i : ℕ) → i ≢ queue → row (left t queue) i ≡ row t i
     left-others i apart = subst (λ (u : Table). row u i ≡ row t i) left-between (placed-other t queue (leaving t (row t queue)) i apart)
+
+  -- where no one is left: the queue was freed, and all that were going after it
+  left-rests : left t queue .head .total ≡ 0 → ComesToRest t (left t queue)
+  unfolding left freed
+  left-rests empty = ⊎-elim reached-it owed-it (either (reached t (row t queue .position)))
+    where
+      o : Orderly t
+      o = l .was-sound .orderly-table
+
+      here : isFree (row t queue .state) ≡ false
+      here = asking-not-free (row t queue .state) (l .asks)
+
+      way : AtMostV t (row t queue .position) → Frees (freed t queue) (left t queue)
+      way level = subst (λ (r : Row). Frees (placed t queue r) (released (placed t queue (leaving t (row t queue))))) (leaving-reached t (row t queue) level) (released-frees (placed t queue (leaving t (row t queue))))
+
+      reached-it : reached t (row t queue .position) ≡ true → ComesToRest t (left t queue)
+      reached-it e =
+          let level = reached-yes (row t queue .position) (t .head .total) (t .head .sum) e in
+          comes-to-rest queue (orderly-heavy o) here level (release-ends (way level) empty (freed-heavy t queue here (orderly-heavy o)))
+
+      owed-it : reached t (row t queue .position) ≡ false → ComesToRest t (left t queue)
+      owed-it e =
+          absurd
+          (omega (
+            arith,
+            orderly-heavy o .weighs queue here,
+            weight-within t queue (sums-true o) inside-rows,
+            left-sums (λ level. clash (yes-reached (row t queue .position) (t .head .total) (t .head .sum) level) e) .total-same,
+          ))
 
   left-means : LeaveMeans t (left t queue) queue
   unfolding left
@@ -120,6 +154,7 @@ module _ (t : Table) (queue : ℕ) (l : Leaves t queue) where
         becomes-going = left-going;
         sums-kept = left-sums;
         others-same = left-others;
+        rests = left-rests;
         slice = put-slice t queue (leaving t (row t queue));
         terms-same = put-terms t queue (leaving t (row t queue));
         release = put-release t queue (leaving t (row t queue));

@@ -15,6 +15,7 @@ use Rattle.share.specs.Sound.{Ready}
 use Rattle.share.specs.Table.{row, AtMostV}
 use Rattle.share.proofs.Keeps.{frees-calm}
 use Rattle.share.proofs.Release.{freed-total, freed-sum, freed-same, freed-other, ready-weight, ready-moment, released-frees}
+use Rattle.calls.proofs.OneDeparture.{going-not-free}
 
 -- V does not fall below a position it has reached
 still-level : (t : Table) (i p : ℕ) → Ready t i → AtMostV t p → AtMostV (freed t i) p
@@ -51,15 +52,10 @@ pub becomes : {t u : Table} (j : ℕ) → Frees t u → Becomes u j (row t j)
 becomes j (done calm) = _⊎_.inl refl
 becomes j (one i r rest) = turn i j r rest (becomes j rest) (ℕ-discrete j i)
 
-going-not-free : (s : Rattle.rows.specs.declared.State.State) → isGoing s ≡ true → isFree s ≡ true → ⊥
-going-not-free Rattle.rows.specs.declared.State.the-variants.Free g f = clash g refl
-going-not-free Rattle.rows.specs.declared.State.the-variants.Going g f = clash f refl
-going-not-free (Rattle.rows.specs.declared.State.the-variants.Asking q) g f = clash f refl
-
 pub released-exactly : (t : Table) (j : ℕ) → isGoing (row t j .state) ≡ true → (isFree (row (released t) j .state) ≡ true) ↔ AtMostV (released t) (row t j .position)
 released-exactly t j going =
     let way = released-frees t in (
-      λ free. ⊎-elim (λ stays. absurd (going-not-free (row t j .state) going (subst (λ (x : Row). isFree (x .state) ≡ true) stays free))) (λ out. out .1) (becomes j way),
+      λ free. ⊎-elim (λ stays. absurd (clash (subst (λ (x : Row). isFree (x .state) ≡ true) stays free) (going-not-free (row t j .state) going))) (λ out. out .1) (becomes j way),
       λ level. ⊎-elim
           (λ stays. absurd (frees-calm way j (record { going = rw stays going; level = rw stays level })))
           (λ out. ap (λ (x : Row). isFree (x .state)) (out .0))

@@ -26,6 +26,8 @@ pub mod Exactly
 pub mod Equations
 -- what a release leaves alone, and which rows it frees
 pub mod Releasing
+-- where a table comes to rest when the last row is freed
+pub mod Resting
 -- what each accepted event means, of the definitions that the contracts cite
 pub mod Meaning
 -- what an accepted leave means; a reweight is a leave and a join

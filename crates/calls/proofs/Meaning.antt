@@ -66,6 +66,7 @@ empty-means-fresh terms =
       all-free = λ i. blank-row queues i;
       total-none = refl;
       sum-none = refl;
+      rest-none = refl;
       terms-given = refl;
       not-out = refl;
       holder-none = refl;

@@ -8,7 +8,7 @@ use Rattle.laws.proofs.Tests.{clash}
 use Rattle.rows.specs.declared.Row.{Row}
 use Rattle.rows.specs.declared.State.{State}
 use Rattle.rows.specs.declared.State.the-variants.{Free, Going, Asking}
-use Rattle.rows.specs.Row.{isFree, isAsking, weightIn, momentIn}
+use Rattle.rows.specs.Row.{isFree, isGoing, isAsking, weightIn, momentIn}
 use Rattle.head.specs.Head.{summed}
 use Rattle.share.specs.declared.Table.{Table}
 use Rattle.share.specs.Events.{leaving}
@@ -43,15 +43,21 @@ module _ (t : Table) (i : ℕ) (sums : TrueSums t) (inside : i < length (t .rows
       let b : freed t i .head .total + r .weight ≡ t .head .total = omega (arith, freed-total t i, weight-within t i sums inside, weight-here r present) in
       once (t .head .sum) (t .head .total) (freed t i .head .sum) (freed t i .head .total) (r .weight) (r .position) a b
 
-abbrev gone : Row → Row
-gone r = record { weight = r .weight; position = r .position; state = Going }
+-- a going row is not free, nor is an asking one
+pub going-not-free : (s : State) → isGoing s ≡ true → isFree s ≡ false
+going-not-free Free e = absurd (clash e refl)
+going-not-free Going e = refl
+going-not-free (Asking q) e = refl
 
--- "Else it becomes going: ... it keeps its weight in W": a queue that leaves owing time changes neither W nor A
 pub asking-not-free : (s : State) → isAsking s ≡ true → isFree s ≡ false
 asking-not-free Free e = absurd (clash e refl)
 asking-not-free Going e = absurd (clash e refl)
 asking-not-free (Asking q) e = refl
 
+abbrev gone : Row → Row
+gone r = record { weight = r .weight; position = r .position; state = Going }
+
+-- "Else it becomes going: ... it keeps its weight in W": a queue that leaves owing time changes neither W nor A
 module _ (t : Table) (queue : ℕ) (asks : isAsking (row t queue .state) ≡ true) (owing : reached t (row t queue .position) ≡ false) where
   pub going-keeps-W : placed t queue (leaving t (row t queue)) .head .total ≡ t .head .total
   unfolding placed summed leaving

@@ -134,6 +134,7 @@ granted-sound t g =
             each = o .each;
             total-true = o .total-true;
             sum-true = o .sum-true;
+            rest = record { rest-high = o .rest .rest-high; only-empty = o .rest .only-empty };
             slice = (
               chosen-inside t (g .was-sound) (g .present),
               granted-holder (t .head) (chosen t) (r .weight) (r .state) (chosen-rightly t (g .was-sound) (g .present) .asks) (g .fits),
@@ -168,6 +169,7 @@ empty-sound terms is-allowed =
             each = λ i. subst⁻¹ OrderlyRow (blank-row queues i) (refl, refl);
             total-true = refl;
             sum-true = refl;
+            rest = record { rest-high = omega arith; only-empty = λ some. refl };
             slice = (refl, refl);
           };
       no-one-ready = λ i ready. clash (ready .going) (ap (λ (r : Row). isGoing (r .state)) (blank-row queues i));

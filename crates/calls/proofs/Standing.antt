@@ -40,7 +40,7 @@ use Rattle.calls.proofs.Departed.{leave-means}
 use Rattle.calls.proofs.Exactly.{released-exactly}
 use Rattle.calls.proofs.Meaning.{accepted-none}
 use Rattle.calls.proofs.Releasing.{put-terms}
-use Rattle.calls.proofs.OneDeparture.{asking-not-free}
+use Rattle.calls.proofs.OneDeparture.{asking-not-free, going-not-free}
 use Rattle.calls.proofs.Replies.{call-cases}
 use Rattle.head.specs.Answers.{number}
 use Rattle.head.specs.Head as AtMost
@@ -119,14 +119,9 @@ pub lag-sign : (t : Table) → Orderly t → (i : ℕ) → isFree (row t i .stat
 lag-sign t o i there = lag-sign-of (t .head) (row t i) (o .each i) there
 
 -- so release and leave go by the lag
-pub going-there : (s : State) → isGoing s ≡ true → isFree s ≡ false
-going-there Free e = absurd (clash e refl)
-going-there Going e = refl
-going-there (Asking q) e = refl
-
 pub released-by-lag : (t : Table) → Orderly t → (j : ℕ) → isGoing (row t j .state) ≡ true → (isFree (row (released t) j .state) ≡ true) ↔ NotBelow0 (lagOf (released t .head) (row t j))
 released-by-lag t o j going =
-    let sign = lag-sign-of (released t .head) (row t j) (o .each j) (going-there (row t j .state) going) in
+    let sign = lag-sign-of (released t .head) (row t j) (o .each j) (going-not-free (row t j .state) going) in
     let when = released-exactly t j going in
     (λ free. sign .0 (when .0 free), λ lag. when .1 (sign .1 lag))
 

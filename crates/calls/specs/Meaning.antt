@@ -14,9 +14,11 @@ use Rattle.rows.specs.Numbers.{queues, stepOf}
 use Rattle.rows.specs.Row.{blank, isFree, isGoing, isAsking}
 use Rattle.head.specs.declared.Event.the-variants.{Join, Leave}
 use Rattle.head.specs.Answers.{number}
+use Rattle.head.specs.Lag.{lagOf}
 use Rattle.share.specs.declared.Table.{Table}
 use Rattle.share.specs.Calls.{step}
 use Rattle.share.specs.Events.{meant}
+use Rattle.share.specs.Release.{freed}
 use Rattle.share.specs.Sound.{Calm}
 use Rattle.share.specs.Table.{row, AtMostV}
 
@@ -49,6 +51,22 @@ pub record ReleaseFollows (t u : Table) (queue : ℕ) : Type 0 where
   -- "until there is none"
   pub none-left : Calm u
 
+-- T-02, "a resting position: the position of the last row freed": of all rows that were there it is the furthest, for V had reached each of them
+pub record ComesToRest (t u : Table) : Type 0 where
+  pub last : ℕ
+  pub was-there : isFree (row t last .state) ≡ false
+  pub rests-there : u .head .resting ≡ row t last .position
+  pub furthest : (i : ℕ) → isFree (row t i .state) ≡ false → row t i .position ≤ u .head .resting
+
+-- "which is then V exactly": of a row whose departure leaves the table empty
+pub record LastFreed (t : Table) (i : ℕ) : Type 0 where
+  -- its lag is 0
+  pub lag-none : lagOf (t .head) (row t i) ≡ pos 0
+  -- V is A / W, so its position x W is A
+  pub stands-at-V : row t i .position * t .head .total ≡ t .head .sum
+  -- and there the table rests
+  pub rests-there : freed t i .head .resting ≡ row t i .position
+
 -- "Fresh. An empty table with the given slice limit."
 pub record FreshMeans (u : Table) (terms : Terms) : Type 0 where
   -- "Queue numbers 0 to 63, one row each." "free rows all zero"
@@ -57,6 +75,8 @@ pub record FreshMeans (u : Table) (terms : Terms) : Type 0 where
   -- W and A of no rows
   pub total-none : u .head .total ≡ 0
   pub sum-none : u .head .sum ≡ 0
+  -- the resting position "is 0 in a fresh table" (T-02)
+  pub rest-none : u .head .resting ≡ 0
   -- "with the given slice limit"
   pub terms-given : u .head .terms ≡ terms
   -- "With no slice out, holder and ticks are zero."
@@ -122,8 +142,8 @@ pub record JoinMeans (t u : Table) (queue weight length : ℕ) : Type 0 where
   pub position : ℕ
   pub not-below : 0 < t .head .total → t .head .sum ≤ position * t .head .total
   pub least : 0 < t .head .total → (c : ℕ) → t .head .sum ≤ c * t .head .total → position ≤ c
-  -- "or at 0 if the table is empty"
-  pub into-empty : t .head .total ≡ 0 → position ≡ 0
+  -- or where the empty table rests: "The next queue enters there." (T-02)
+  pub into-empty : t .head .total ≡ 0 → position ≡ t .head .resting
   -- "and opens its first request; the length given also holds for its later ones until a length event"
   pub asks : AsksWith (row u queue) weight position position (meant t length) 0 (meant t length)
   -- no slice comes or goes
@@ -144,6 +164,8 @@ pub record LeaveMeans (t u : Table) (queue : ℕ) : Type 0 where
   pub sums-kept : (AtMostV t (row t queue .position) → ⊥) → SameSums t u
   -- and nothing else becomes ready, since V stays
   pub others-same : (AtMostV t (row t queue .position) → ⊥) → (i : ℕ) → i ≢ queue → row u i ≡ row t i
+  -- where no one is left the table rests (T-02)
+  pub rests : u .head .total ≡ 0 → ComesToRest t u
   -- no slice comes or goes
   pub slice : SameSlice t u
   -- "fixed when a table is made"

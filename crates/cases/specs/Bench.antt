@@ -1,15 +1,15 @@
--- Document 01, "Bench cases": B1 to B11 in one table, every number that it gives for them.
+-- Document 01, "Bench cases": B1 to B11 in one table, every number that it gives for them; and B12, of T-02, whose numbers are the independent program's.
 use mathlib.Core.Bool.{false}
 use mathlib.Core.List.{List, [], _∷_, _++_}
 use Prim.Native.Nat.{ℕ, _-_}
 use lib.IntN.{pos}
 use Rattle.rows.specs.Numbers.{ceiling, leastTerms}
 use Rattle.rows.specs.Requests.{entering}
-use Rattle.head.specs.declared.Event.the-variants.{Join, Leave, Grant, Return}
+use Rattle.head.specs.declared.Event.the-variants.{Join, Leave, Reweight, Grant, Return}
 use Rattle.share.specs.declared.Table.{Table}
 use Rattle.share.specs.Events.{emptyTable}
 use Rattle.share.specs.Table.{placed}
-use Rattle.cases.specs.Facts.{minus, _over_, answers, grants, sums, weighs, virtual-time, not-virtual-time, lag, reports, enters-at, is-free, is-going, from-sound, only-takes-the-slice-in, fresh, Line, _then_, Case}
+use Rattle.cases.specs.Facts.{minus, _over_, answers, grants, sums, weighs, virtual-time, not-virtual-time, lag, reports, rests-at, enters-at, is-free, is-going, from-sound, only-takes-the-slice-in, fresh, Line, _then_, Case}
 
 -- "It begins with the table that refusal 14 gives"
 abbrev pub first : List Line → Case
@@ -49,6 +49,23 @@ threeQueues =
 abbrev pub sliceOut : List Line
 sliceOut = (fresh 1 then []) ∷ (Join 5 4 3 then answers 0 ∷ []) ∷ (Grant then grants 5 1 ∷ []) ∷ []
 
+-- B12: a lone queue leaves and another comes, which is reweighted. "The next queue enters there."
+abbrev pub emptied : List Line
+emptied =
+    (fresh 1 then rests-at 0 ∷ [])
+    ∷ (Join 3 2 2 then answers 0 ∷ enters-at 3 0 ∷ sums 0 2 ∷ [])
+    ∷ (Grant then grants 3 1 ∷ [])
+    ∷ (Return 3 1 false then sums 720720 2 ∷ virtual-time (pos 360360 over 1) ∷ [])
+    ∷ (Leave 3 then answers 0 ∷ sums 0 0 ∷ rests-at 360360 ∷ [])
+    ∷ (Grant then answers 11 ∷ rests-at 360360 ∷ [])
+    ∷ (Join 4 4 1 then answers 0 ∷ enters-at 4 360360 ∷ sums 1441440 4 ∷ virtual-time (pos 360360 over 1) ∷ [])
+    ∷ (Grant then grants 4 1 ∷ [])
+    ∷ (Return 4 1 false then sums 2162160 4 ∷ virtual-time (pos 540540 over 1) ∷ [])
+    ∷ (Reweight 4 3 2 then answers 0 ∷ enters-at 4 540540 ∷ sums 1621620 3 ∷ virtual-time (pos 540540 over 1) ∷ [])
+    ∷ (Grant then grants 4 1 ∷ [])
+    ∷ (Return 4 1 false then sums 2342340 3 ∷ virtual-time (pos 780780 over 1) ∷ [])
+    ∷ []
+
 -- B10: "a lone queue of weight 16, length 1, nothing served"
 unfoldable pub loneAt : ℕ → Table
 loneAt position = placed (emptyTable leastTerms) 0 (entering 16 position 1)
@@ -86,4 +103,6 @@ bench =
     ∷ record { from = loneAt (ceiling - 45044); lines = (Grant then from-sound ∷ answers 12 ∷ []) ∷ [] }
     -- B11: "returning 0 ticks, not early, only takes the slice in"
     ∷ first (sliceOut ++ (Return 5 0 false then answers 0 ∷ only-takes-the-slice-in ∷ []) ∷ [])
+    -- B12, T-02: the table empties and fills again, twice
+    ∷ first emptied
     ∷ []

@@ -45,6 +45,8 @@ pub data Fact : Type 0 where
   -- a queue's lag in ticks; the lag report of the first queues, the others' being 0
   lag : ℕ → Fraction → Fact
   reports : List ℤ → Fact
+  -- an empty table, and where it rests
+  rests-at : ℕ → Fact
   -- a queue's row
   enters-at : ℕ → ℕ → Fact
   is-free : ℕ → Fact
@@ -90,7 +92,8 @@ flagNumber true = 1
 flagNumber false = 0
 
 abbrev pub tableNumbers : Table → List ℕ
-tableNumbers t = t .head .total ∷ t .head .sum ∷ t .head .terms .limit ∷ flagNumber (t .head .out) ∷ t .head .holder ∷ t .head .ticks ∷ rowNumbers (t .rows)
+tableNumbers t =
+    t .head .total ∷ t .head .sum ∷ t .head .resting ∷ t .head .terms .limit ∷ flagNumber (t .head .out) ∷ t .head .holder ∷ t .head .ticks ∷ rowNumbers (t .rows)
 
 abbrev pub sameNumbers : List ℕ → List ℕ → Bool
 sameNumbers [] [] = true
@@ -108,6 +111,7 @@ holds before r (virtual-time v) = equals (pos (r .table .head .sum) over r .tabl
 holds before r (not-virtual-time v) = not (equals (pos (r .table .head .sum) over r .table .head .total) v)
 holds before r (lag queue v) = equals (lagOf (r .table .head) (row (r .table) queue) over lagUnit (r .table .head)) v
 holds before r (reports lags) = begins lags (lagsInto (r .table) [])
+holds before r (rests-at position) = eqb (r .table .head .total) 0 && eqb (r .table .head .resting) position
 holds before r (enters-at queue position) = eqb (row (r .table) queue .position) position
 holds before r (is-free queue) = isFree (row (r .table) queue .state)
 holds before r (is-going queue) = isGoing (row (r .table) queue .state)

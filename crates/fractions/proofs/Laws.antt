@@ -4,13 +4,14 @@ use mathlib.Core.Path.{_≡_, refl, sym, _∙_}
 use mathlib.Core.Bool.{true, false}
 use mathlib.Core.Logic.{_⊎_, ⊎-elim}
 use Prim.Native.Nat.{ℕ, _+_, _*_, _≤_, _<_}
+use native.Mathlib.Nat.{le-of-mul-le-mul-right, mul-le-mul-right}
 use native.Mathlib.Omega.{arith}
 use lib.IntN.{ℤ, pos, negsuc}
 use Rattle.laws.proofs.Means.{round-up-not-below, round-up-least}
 use Rattle.laws.proofs.Tests.{either}
-use Rattle.fractions.specs.Fraction.{Fraction, over, whole, nothing, _⊕_, minus, _~_, atMost, roundedUp, ceilingOf}
+use Rattle.fractions.specs.Fraction.{Fraction, over, whole, nothing, _⊕_, minus, portion, _~_, atMost, roundedUp, ceilingOf}
 use Rattle.fractions.proofs.Differences.{up, down}
-use Rattle.fractions.proofs.Values.{value-itself, value-whole, value-nothing, value-minus, value-sum, value-change, same-value, like-value, value-at-most, value-above, at-most-value, above-value}
+use Rattle.fractions.proofs.Values.{value-itself, value-whole, value-nothing, value-minus, value-sum, value-any-portion, value-change, same-value, like-value, value-at-most, value-above, at-most-value, above-value}
 
 -- the one number that no sentence divides by
 pub over-none : over 0 ≡ 1
@@ -67,6 +68,49 @@ at-most-same h {f} {g} e = ⊎-elim yes-too no-too (either (atMost h g))
 
     no-too : atMost h g ≡ false → atMost h f ≡ atMost h g
     no-too k = value-above (value-itself h) (like-value e (value-itself g)) (above-value (value-itself h) (value-itself g) k) ∙ sym k
+
+pub at-most-itself : (f : Fraction) → atMost f f ≡ true
+at-most-itself f = value-at-most (value-itself f) (value-itself f) (omega arith)
+
+-- numbers alone: a chain of two orders, with the middle one's denominator taken out
+chain-numbers : (a b d p q c x y e : ℕ) → 0 < c → a * c + q * d ≤ p * d + b * c → p * e + y * c ≤ x * c + q * e → a * e + y * d ≤ x * d + b * e
+chain-numbers a b d p q c x y e positive h k =
+    le-of-mul-le-mul-right {k = c} (omega (arith, mul-le-mul-right e h, mul-le-mul-right d k)) positive
+
+pub at-most-through : (f g h : Fraction) → atMost f g ≡ true → atMost g h ≡ true → atMost f h ≡ true
+at-most-through f g h l m =
+    let a = value-itself f in
+    let b = value-itself g in
+    let c = value-itself h in
+    value-at-most a c
+    (chain-numbers (up (f .numerator)) (down (f .numerator)) (f .denominator) (up (g .numerator)) (down (g .numerator)) (g .denominator)
+    (up (h .numerator)) (down (h .numerator)) (h .denominator) (g .above) (at-most-value a b l) (at-most-value b c m))
+
+-- fractions that are equal stand alike
+pub at-most-like : {f g h k : Fraction} → f ~ g → h ~ k → atMost g k ≡ true → atMost f h ≡ true
+at-most-like {f} {g} {h} {k} e r l =
+    value-at-most (like-value e (value-itself g)) (like-value r (value-itself k)) (at-most-value (value-itself g) (value-itself k) l)
+
+-- what is not below 0 makes a sum no less, and a portion of it is not below 0; nor is what a fraction is short of one that it is at most
+pub sum-not-less : (f g : Fraction) → atMost nothing g ≡ true → atMost f (f ⊕ g) ≡ true
+sum-not-less f g l =
+    let v = value-itself f in
+    let w = value-itself g in
+    value-at-most v (value-sum v w)
+    (omega (arith, mul-le-mul-right (f .denominator * f .denominator) (at-most-value (value-nothing 0 1 (omega arith)) w l)))
+
+pub portion-not-below : (f : Fraction) (m n : ℕ) → atMost nothing f ≡ true → atMost nothing (portion f m n) ≡ true
+portion-not-below f m n l =
+    let zero-value = value-nothing 0 1 (omega arith) in
+    value-at-most zero-value (value-any-portion m n (value-itself f)) (omega (arith, mul-le-mul-right m (at-most-value zero-value (value-itself f) l)))
+
+pub short-not-below : (f g : Fraction) → atMost f g ≡ true → atMost nothing (g ⊕ minus f) ≡ true
+short-not-below f g l =
+    value-at-most (value-nothing 0 1 (omega arith)) (value-sum (value-itself g) (value-minus (value-itself f)))
+    (omega (arith, at-most-value (value-itself f) (value-itself g) l))
+
+pub whole-not-below : (n : ℕ) → atMost nothing (whole n) ≡ true
+whole-not-below n = value-at-most (value-nothing 0 1 (omega arith)) (value-whole n) (omega arith)
 
 -- the ceiling: not below the fraction, and no whole number that is not below it is less
 reaches : (x : ℤ) (e : ℕ) → 0 < e → up x ≤ roundedUp x e * e + down x

@@ -79,16 +79,18 @@ value-sum {f} {g} {a} {b} {d} {p} {q} {c} v w =
 portion-numbers : (n m e a b d k j s r : ℕ) → n * d + b * e ≡ a * e + m * d → s + m * k ≡ n * k + r → s * (d * j) + b * k * (e * j) ≡ a * k * (e * j) + r * (d * j)
 portion-numbers n m e a b d k j s r u w = omega (arith, ap (λ (x : ℕ). x * (k * j)) u, ap (λ (x : ℕ). x * (d * j)) w)
 
-pub value-portion : {f : Fraction} {a b d : ℕ} (k j : ℕ) → 0 < j → Value f a b d → Value (portion f k j) (a * k) (b * k) (d * j)
+pub value-any-portion : {f : Fraction} {a b d : ℕ} (k j : ℕ) → Value f a b d → Value (portion f k j) (a * k) (b * k) (d * over j)
 unfolding portion
-value-portion {f} {a} {b} {d} k j h v =
+value-any-portion {f} {a} {b} {d} k j v =
     record {
-      positive = mul-pos (v .positive) h;
+      positive = mul-pos (v .positive) (over-above j);
       worth =
-          rw (over-is j h)
-          (portion-numbers (up (f .numerator)) (down (f .numerator)) (f .denominator) a b d k j (up (times (f .numerator) k))
-          (down (times (f .numerator) k)) (v .worth) (times-is (f .numerator) k (itself (f .numerator)) .same));
+          portion-numbers (up (f .numerator)) (down (f .numerator)) (f .denominator) a b d k (over j) (up (times (f .numerator) k))
+          (down (times (f .numerator) k)) (v .worth) (times-is (f .numerator) k (itself (f .numerator)) .same);
     }
+
+pub value-portion : {f : Fraction} {a b d : ℕ} (k j : ℕ) → 0 < j → Value f a b d → Value (portion f k j) (a * k) (b * k) (d * j)
+value-portion {f} {a} {b} {d} k j h v = subst (λ (x : ℕ). Value (portion f k j) (a * k) (b * k) (d * x)) (over-is j h) (value-any-portion k j v)
 
 -- the same worth in other numbers
 change-numbers : (n m e a b d p q c : ℕ) → n * d + b * e ≡ a * e + m * d → a * c + q * d ≡ p * d + b * c → (n * c + q * e) * d ≡ (p * e + m * c) * d

@@ -7,6 +7,7 @@ use Rattle.rows.specs.declared.looking.Seen.{Seen}
 use Rattle.rows.proofs.Orderly.{allowed-says, says-allowed}
 use Rattle.head.specs.declared.Head.{Head}
 use Rattle.head.specs.Judged.{Whole, whole}
+use Rattle.head.proofs.Rest.{rest-says, says-rest}
 
 module _ (h : Head) (s : Seen) where
   pub whole-says : whole h s ≡ true → Whole h s
@@ -17,10 +18,14 @@ module _ (h : Head) (s : Seen) where
         no-fault = eqb-true _ _ (t .0);
         total-is = eqb-true _ _ (t .1 .0);
         sum-is = eqb-true _ _ (t .1 .1 .0);
-        terms-allowed = allowed-says (h .terms) (t .1 .1 .1 .0);
+        rest = rest-says h (t .1 .1 .1 .0);
+        terms-allowed = allowed-says (h .terms) (t .1 .1 .1 .1 .0);
       }
 
   pub says-whole : Whole h s → whole h s ≡ true
   unfolding whole
   says-whole w =
-      each-every _ (eq-eqb _ _ (w .no-fault), (eq-eqb _ _ (w .total-is), (eq-eqb _ _ (w .sum-is), (says-allowed (h .terms) (w .terms-allowed), tt))))
+      each-every _ (
+        eq-eqb _ _ (w .no-fault),
+        (eq-eqb _ _ (w .total-is), (eq-eqb _ _ (w .sum-is), (says-rest h (w .rest), (says-allowed (h .terms) (w .terms-allowed), tt)))),
+      )

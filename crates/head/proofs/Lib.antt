@@ -2,6 +2,8 @@
 
 -- a newcomer enters at the least whole number not below V
 pub mod Entry
+-- the resting position is in order by its test
+pub mod Rest
 -- the slice that is out is decided by its test
 pub mod Slice
 -- whether a walk was whole is decided by its test

@@ -11,7 +11,7 @@ use Rattle.head.specs.declared.Head.{Head}
 
 -- "Fresh. An empty table with the given slice limit."
 unfoldable pub emptyHead : Terms → Head
-emptyHead terms = record { total = 0; sum = 0; terms = terms; out = false; holder = 0; ticks = 0 }
+emptyHead terms = record { total = 0; sum = 0; resting = 0; terms = terms; out = false; holder = 0; ticks = 0 }
 
 unfoldable pub isEmpty : Head → Bool
 isEmpty h = eqb (h .total) 0
@@ -23,20 +23,23 @@ AtMostV h position = Reached position (h .total) (h .sum)
 abbrev pub reachedBy : Head → ℕ → Bool
 reachedBy h position = reached position (h .total) (h .sum)
 
--- "Join. The queue enters at the least whole number not below V, or at 0 if the table is empty"
+-- "Join. The queue enters at the least whole number not below V"; of an empty table T-02 has: "The table is to remember a resting position ... The next
+-- queue enters there."
 abbrev pub entryEmpty : Head → ℕ
-entryEmpty h = 0
+entryEmpty h = h .resting
 
 unfoldable pub entry : Head → ℕ
 entry h = cond (isEmpty h) (entryEmpty h) ((h .sum + (h .total - 1)) / h .total)
 
 -- the same with a slice out, or with none
 unfoldable pub sliced : Head → Bool → ℕ → ℕ → Head
-sliced h out holder ticks = record { total = h .total; sum = h .sum; terms = h .terms; out = out; holder = holder; ticks = ticks }
+sliced h out holder ticks =
+    record { total = h .total; sum = h .sum; resting = h .resting; terms = h .terms; out = out; holder = holder; ticks = ticks }
 
--- the same with other sums
-unfoldable pub summed : Head → ℕ → ℕ → Head
-summed h total sum = record { total = total; sum = sum; terms = h .terms; out = h .out; holder = h .holder; ticks = h .ticks }
+-- the same with other sums and another resting position
+unfoldable pub summed : Head → ℕ → ℕ → ℕ → Head
+summed h total sum resting =
+    record { total = total; sum = sum; resting = resting; terms = h .terms; out = h .out; holder = h .holder; ticks = h .ticks }
 
 -- the queue whose row decides on an event: the one that it names, or for a grant the one that is chosen
 abbrev pub concerns : ℕ → Event → ℕ

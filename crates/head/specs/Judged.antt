@@ -12,17 +12,20 @@ use Rattle.rows.specs.Numbers.{maxWeight, maxTotal, maxLength, ceiling}
 use Rattle.rows.specs.Orderly.{OrderlyRow, Allowed, allowed}
 use Rattle.head.specs.declared.Head.{Head}
 use Rattle.head.specs.declared.surveying.Survey.{Survey}
+use Rattle.head.specs.Rest.{OrderlyRest, orderlyRest}
 use Rattle.head.specs.Slice.{orderlySlice}
 
--- no row had a fault, the sums are the stored ones, and the terms are allowed
+-- no row had a fault, the sums are the stored ones, the resting position is in order, and the terms are allowed
 pub record Whole (h : Head) (s : Seen) : Type 0 where
   pub no-fault : s .faults ≡ 0
   pub total-is : s .weights ≡ h .total
   pub sum-is : s .moments ≡ h .sum
+  pub rest : OrderlyRest h
   pub terms-allowed : Allowed (h .terms)
 
 unfoldable pub whole : Head → Seen → Bool
-whole h s = every (eqb (s .faults) 0 ∷ eqb (s .weights) (h .total) ∷ eqb (s .moments) (h .sum) ∷ allowed (h .terms) ∷ [])
+whole h s =
+    every (eqb (s .faults) 0 ∷ eqb (s .weights) (h .total) ∷ eqb (s .moments) (h .sum) ∷ orderlyRest h ∷ allowed (h .terms) ∷ [])
 
 unfoldable pub surveyOf : Head → Seen → Row → Survey
 surveyOf h s r = record { sound = every (whole h s ∷ orderlySlice h (h .out) r ∷ []); queue = s .queue; nearest = s .nearest }

@@ -3,6 +3,8 @@
 
 -- the numbers of a head; where a newcomer enters
 pub mod Head
+-- the resting position of an empty table
+pub mod Rest
 -- the slice that is out: when it is in order, and how long one is
 pub mod Slice
 -- the lag of a row

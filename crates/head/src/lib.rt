@@ -6,16 +6,20 @@ ghost use Rattle.head.specs.Head as heads;
 
 mod judging;
 mod lagging;
+mod resting;
 mod surveying;
 
 pub use judging::Verdict;
+pub use resting::rest_after;
 use rows::Terms;
 pub use surveying::Survey;
 
-// W is total and A is sum; holder and ticks are those of the slice that is out, and zero when none is.
+// W is total and A is sum; resting is where V stands while no row is present, and zero while one is; holder and ticks are those of the slice that is
+// out, and zero when none is.
 pub struct Head {
     pub total: u64,
     pub sum: u64,
+    pub resting: u64,
     pub terms: Terms,
     pub out: bool,
     pub holder: u64,

@@ -63,19 +63,6 @@ impl Head {
         rows::reached(position, self.total, self.sum)
     }
 
-    // The least whole number not below V = A / W, or 0 if the table is empty.
-    pub fn entry(self) -> u64
-        requires { ⌜ judged.Small self ⌝ }
-        ensures { λ r. ⌜ r ≡ heads.entry self ⌝ }
-    {
-        let total = self.total;
-        let sum = self.sum;
-        if total == 0 {
-            return 0;
-        }
-        (sum + (total - 1)) / total
-    }
-
     fn request_held(self, q: Request, weight: u64) -> bool
         requires { ⌜ (judged.Servable q) × (self .total ≤ maxTotal) ⌝ }
         ensures { λ r. ⌜ r ≡ slices.orderlyHolder self weight q ⌝ }
@@ -139,6 +126,9 @@ impl Head {
             return false;
         }
         if moments != self.sum {
+            return false;
+        }
+        if !self.rest_orderly() {
             return false;
         }
         terms_allowed(self.terms)

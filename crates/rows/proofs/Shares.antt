@@ -1,6 +1,6 @@
 -- An orderly row's part in W and A is its weight and its weight x position, a free one's being zero; and both are small.
 use mathlib.Core.Path.{_≡_, refl, sym}
-use mathlib.Core.Bool.{cond}
+use mathlib.Core.Bool.{true, cond}
 use Prim.Native.Nat.{ℕ, _*_, _≤_}
 use native.Mathlib.Nat.{mul-le-mul}
 use native.Mathlib.Omega.{arith}
@@ -30,6 +30,23 @@ share-of Free w p h =
     }
 share-of Going w p h = record { weight-is = refl; moment-is = refl; weight-most = h .weight-high; position-most = h .position-high }
 share-of (Asking q) w p h = record { weight-is = refl; moment-is = refl; weight-most = h .0 .weight-high; position-most = h .0 .position-high }
+
+-- a row's part in A is its part in W times its position
+moment-as : (s : State) (w p : ℕ) → cond (isFree s) 0 (w * p) ≡ cond (isFree s) 0 w * p
+moment-as Free w p = omega arith
+moment-as Going w p = refl
+moment-as (Asking q) w p = refl
+
+pub moment-is : (r : Row) → momentIn r ≡ weightIn r * r .position
+unfolding momentIn weightIn
+moment-is r = moment-as (r .state) (r .weight) (r .position)
+
+free-weight : (s : State) (n : ℕ) → isFree s ≡ true → cond (isFree s) 0 n ≡ 0
+free-weight s n e = rw e refl
+
+pub free-weighs-nothing : (r : Row) → isFree (r .state) ≡ true → weightIn r ≡ 0
+unfolding weightIn
+free-weighs-nothing r e = free-weight (r .state) (r .weight) e
 
 module _ (r : Row) (h : OrderlyRow r) where
   share : Share (r .state) (r .weight) (r .position)

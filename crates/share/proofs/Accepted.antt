@@ -25,7 +25,7 @@ use Rattle.share.specs.Sound.{Sound, sound}
 use Rattle.share.specs.Table.{row}
 use Rattle.share.proofs.Release.{frees-released}
 use Rattle.share.proofs.Sound.{sound-says}
-use Rattle.share.proofs.Totals.{sums-true}
+use Rattle.share.proofs.Totals.{weighed}
 
 -- the test at a place of the list, counted from 0
 abbrev pub testAt : List Check → ℕ → Bool
@@ -121,7 +121,7 @@ grant-accepted t e =
 -- a sound table has nothing to release
 pub nothing-to-free : (t : Table) → firstOf (releaseChecks t) ≡ none → t ≡ released t
 unfolding releaseChecks
-nothing-to-free t e = let is = is-sound t (fails-at (releaseChecks t) e 0) in frees-released (sums-true (is .orderly-table)) (done (is .no-one-ready))
+nothing-to-free t e = let is = is-sound t (fails-at (releaseChecks t) e 0) in frees-released (weighed (is .orderly-table)) (done (is .no-one-ready))
 
 -- a lag report has a sound table and a list of 64 entries or more
 pub lags-accepted : (t : Table) (given : List ℤ) → firstOf (lagChecks t given) ≡ none → Sound t × (queues ≤ length given)

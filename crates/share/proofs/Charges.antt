@@ -19,11 +19,14 @@ use Rattle.rows.proofs.Requests.{charge-high, charged-orderly}
 use Rattle.rows.proofs.Shares.{orderly-weight, position-small}
 use Rattle.head.specs.declared.Head.{Head}
 use Rattle.head.specs.Head.{sliced, summed}
+use Rattle.head.proofs.Rest.{rest-others}
 use Rattle.head.specs.Slice.{OrderlyHolder, HeldBy, OrderlySlice}
 use Rattle.share.specs.declared.Table.{Table}
 use Rattle.share.specs.Asks.{Placing, Ahead, Returns}
 use Rattle.share.specs.Sound.{held, Orderly}
 use Rattle.share.specs.Table.{row, placed, withSlice}
+use Rattle.share.proofs.Placed.{weight-within}
+use Rattle.share.proofs.Totals.{sums-true}
 
 -- the slice taken in: an orderly table without one
 pub taken-in : (t : Table) → Orderly t → Orderly (withSlice t false 0 0)
@@ -35,6 +38,7 @@ taken-in t o =
       each = o .each;
       total-true = o .total-true;
       sum-true = o .sum-true;
+      rest = record { rest-high = o .rest .rest-high; only-empty = o .rest .only-empty };
       slice = (refl, refl);
     }
 
@@ -113,10 +117,23 @@ module _ (t : Table) (queue used : ℕ) (r : Returns t queue used) where
           charged-weight (row t queue) used early,
         )
 
-    -- the table changed in place: the weight stays, so W does
-    pub in-place : (sum : ℕ) → sum ≡ t .head .sum + momentIn (charged (row t queue) used early) - momentIn (row t queue) → record { rows = set (t .rows) queue (charged (row t queue) used early); head = record { total = t .head .total; sum = sum; terms = t .head .terms; out = false; holder = 0; ticks = 0 } } ≡ placed (withSlice t false 0 0) queue (charged (row t queue) used early)
+    present : 0 < t .head .total
+    present =
+        let o = r .was-sound .orderly-table in
+        let h = holding t queue used r in
+        let as-asking : OrderlyAs (Asking (h .request)) (row t queue .weight) (row t queue .position) =
+        subst (λ (s : State). OrderlyAs s (row t queue .weight) (row t queue .position)) (h .is-asking) (o .each queue) in
+        omega (
+          arith,
+          weight-within t queue (sums-true o) (omega (arith, o .one-each, r .inside)),
+          orderly-weight (row t queue) (o .each queue),
+          as-asking .0 .weight-low,
+        )
+
+    -- the table changed in place: the weight stays, so W does; and with rows present there is no resting position
+    pub in-place : (sum : ℕ) → sum ≡ t .head .sum + momentIn (charged (row t queue) used early) - momentIn (row t queue) → record { rows = set (t .rows) queue (charged (row t queue) used early); head = record { total = t .head .total; sum = sum; resting = t .head .resting; terms = t .head .terms; out = false; holder = 0; ticks = 0 } } ≡ placed (withSlice t false 0 0) queue (charged (row t queue) used early)
     unfolding placed summed withSlice sliced row
-    in-place sum e = rw (e, same-total) refl
+    in-place sum e = rw (e, same-total, rest-others (t .head .total) (row t queue .position) present, r .was-sound .orderly-table .rest .only-empty present) refl
 
     -- it goes on asking
     pub return-asks : isGoing (charged (row t queue) used early .state) ≡ false

@@ -11,6 +11,7 @@ use Rattle.head.specs.declared.Event.{Event}
 use Rattle.head.specs.Head.{isEmpty, entry, summed, sliced, emptyHead}
 use Rattle.head.specs.Lag.{lagOf, lagUnit}
 use Rattle.head.specs.Refusals.{queueOutside, lengthOutside, notHolder, rowTaken, notAsking, lagBelow, ceilingPassed, ticksOutside, checksFor}
+use Rattle.head.specs.Rest.{restAfter, orderlyRest}
 use Rattle.head.specs.Slice.{sliceFor, orderlyHolder}
 use Rattle.share.specs.declared.Reply.{Reply}
 use Rattle.share.specs.declared.Table.{Table}
@@ -23,5 +24,5 @@ use Rattle.share.specs.Sound.{orderly, ready, calm, sound}
 use Rattle.share.specs.Table.{row, trueTotal, trueSum, placed, withSlice}
 
 unfoldable pub stepping : Table → Event → Reply
-unfolding every _⊖_ lengthMeant defaultOf stepOf positionOf deadlineOf chargedTo weightIn momentIn reached readyAt eligibleAt outside inRange orderlyRequest orderlyRow fitsCeiling sliceMost sliceLeast limitOutside allowed opened entering rowNextSet servedTo charged bidOf bid goesBefore emptyHead isEmpty entry sliced summed orderlyHolder sliceFor lagOf lagUnit queueOutside lengthOutside notHolder rowTaken notAsking lagBelow ticksOutside ceilingPassed checksFor row trueTotal trueSum placed withSlice orderly ready calm sound lagsInto freed released eligible deadline precedes choice emptyTable joined leaving left reweighted lengthSet chosen sliceGiven granted returned call checksOf step
+unfolding every _⊖_ lengthMeant defaultOf stepOf positionOf deadlineOf chargedTo weightIn momentIn reached readyAt eligibleAt outside inRange orderlyRequest orderlyRow fitsCeiling sliceMost sliceLeast limitOutside allowed opened entering rowNextSet servedTo charged bidOf bid goesBefore emptyHead isEmpty entry sliced summed restAfter orderlyRest orderlyHolder sliceFor lagOf lagUnit queueOutside lengthOutside notHolder rowTaken notAsking lagBelow ticksOutside ceilingPassed checksFor row trueTotal trueSum placed withSlice orderly ready calm sound lagsInto freed released eligible deadline precedes choice emptyTable joined leaving left reweighted lengthSet chosen sliceGiven granted returned call checksOf step
 stepping t e = step t e

@@ -11,6 +11,7 @@ use Rattle.rows.specs.Row.{blank, isGoing}
 use Rattle.rows.specs.Orderly.{OrderlyRow, orderlyRow}
 use Rattle.rows.proofs.Orderly.{orderly-row, row-orderly, allowed-says, says-allowed}
 use Rattle.rows.proofs.Virtual.{ready-is-going, ready-is-reached, is-ready}
+use Rattle.head.proofs.Rest.{rest-says, says-rest}
 use Rattle.head.proofs.Slice.{orderly-slice, slice-orderly}
 use Rattle.share.specs.declared.Table.{Table}
 use Rattle.share.specs.Table.{row}
@@ -37,7 +38,8 @@ orderly-says t e =
       each = every-row t OrderlyRow (refl, refl) (λ i l. orderly-row _ (all-at orderlyRow (t .rows) (h .1 .1 .0) blank i l));
       total-true = eqb-true _ _ (h .1 .1 .1 .0);
       sum-true = eqb-true _ _ (h .1 .1 .1 .1 .0);
-      slice = orderly-slice (t .head) (t .head .out) (held t) (h .1 .1 .1 .1 .1 .0);
+      rest = rest-says (t .head) (h .1 .1 .1 .1 .1 .0);
+      slice = orderly-slice (t .head) (t .head .out) (held t) (h .1 .1 .1 .1 .1 .1 .0);
     }
 
 pub says-orderly : (t : Table) → Orderly t → orderly t ≡ true
@@ -49,7 +51,13 @@ says-orderly t h =
         says-allowed (t .head .terms) (h .terms-allowed),
         (
           at-all orderlyRow (t .rows) blank (λ i l. row-orderly _ (h .each i)),
-          (eq-eqb _ _ (h .total-true), (eq-eqb _ _ (h .sum-true), (slice-orderly (t .head) (t .head .out) (held t) (h .slice), tt))),
+          (
+            eq-eqb _ _ (h .total-true),
+            (
+              eq-eqb _ _ (h .sum-true),
+              (says-rest (t .head) (h .rest), (slice-orderly (t .head) (t .head .out) (held t) (h .slice), tt)),
+            ),
+          ),
         ),
       ),
     )

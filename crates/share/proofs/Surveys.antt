@@ -60,6 +60,7 @@ module _ (t : Table) (s : Seen) (one-each : length (t .rows) ≡ queues) (walked
         no-fault = clean;
         total-is = total-walked p ∙ sym (o .total-true);
         sum-is = sum-walked p ∙ sym (o .sum-true);
+        rest = o .rest;
         terms-allowed = o .terms-allowed;
       }
 
@@ -84,6 +85,7 @@ module _ (t : Table) (s : Seen) (one-each : length (t .rows) ≡ queues) (walked
                 each = each-orderly;
                 total-true = sym (w .total-is) ∙ total-walked passed;
                 sum-true = sym (w .sum-is) ∙ sum-walked passed;
+                rest = w .rest;
                 slice = slice;
               };
           no-one-ready = λ i ready. clash (yes-reached _ _ _ (ready .level)) (passed .fine-below i (omega (arith, ready-inside t i ready)) .ahead (ready .going));

@@ -24,7 +24,7 @@ emptyTable terms = record { rows = replicate queues blank; head = emptyHead term
 abbrev pub meant : Table → ℕ → ℕ
 meant t length = lengthMeant (defaultOf (t .head .terms)) length
 
--- "Join. The queue enters at the least whole number not below V, or at 0 if the table is empty, and opens its first request"
+-- "Join. The queue enters at the least whole number not below V" or where an empty table rests (T-02) "and opens its first request"
 -- (and after each join, leave, reweight and return its release)
 unfoldable pub joined : Table → ℕ → ℕ → ℕ → Table
 joined t queue weight length = released (placed t queue (entering weight (entry (t .head)) (meant t length)))

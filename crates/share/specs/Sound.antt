@@ -12,6 +12,7 @@ use Rattle.rows.specs.Numbers.{queues}
 use Rattle.rows.specs.Row.{isGoing}
 use Rattle.rows.specs.Virtual.{readyAt}
 use Rattle.rows.specs.Orderly.{OrderlyRow, orderlyRow, Allowed, allowed}
+use Rattle.head.specs.Rest.{OrderlyRest, orderlyRest}
 use Rattle.head.specs.Slice.{OrderlySlice, orderlySlice}
 use Rattle.share.specs.declared.Table.{Table}
 use Rattle.share.specs.Table.{row, trueTotal, trueSum, AtMostV}
@@ -27,6 +28,7 @@ pub record Orderly (t : Table) : Type 0 where
   pub each : (i : ℕ) → OrderlyRow (row t i)
   pub total-true : t .head .total ≡ trueTotal (t .rows)
   pub sum-true : t .head .sum ≡ trueSum (t .rows)
+  pub rest : OrderlyRest (t .head)
   pub slice : OrderlySlice (t .head) (t .head .out) (held t)
 
 unfoldable pub orderly : Table → Bool
@@ -37,6 +39,7 @@ orderly t =
     ∷ all orderlyRow (t .rows)
     ∷ eqb (t .head .total) (trueTotal (t .rows))
     ∷ eqb (t .head .sum) (trueSum (t .rows))
+    ∷ orderlyRest (t .head)
     ∷ orderlySlice (t .head) (t .head .out) (held t)
     ∷ [])
 

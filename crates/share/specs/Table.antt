@@ -9,6 +9,7 @@ use Rattle.rows.specs.declared.Row.{Row}
 use Rattle.rows.specs.Row.{blank, weightIn, momentIn}
 use Rattle.head.specs.Head as Head
 use Rattle.head.specs.Head.{sliced, summed}
+use Rattle.head.specs.Rest.{restAfter}
 use Rattle.share.specs.declared.Table.{Table}
 
 -- the row of a queue number; past the last there is none
@@ -30,13 +31,19 @@ AtMostV t position = Head.AtMostV (t .head) position
 abbrev pub reached : Table → ℕ → Bool
 reached t position = Head.reachedBy (t .head) position
 
--- the table with a row put in another's place: the old row's share leaves W and A, the new row's enters
+-- W and A with a row put in another's place: the old row's share leaves, the new row's enters
+abbrev pub totalWith : Table → ℕ → Row → ℕ
+totalWith t i r = t .head .total + weightIn r - weightIn (row t i)
+
+abbrev pub sumWith : Table → ℕ → Row → ℕ
+sumWith t i r = t .head .sum + momentIn r - momentIn (row t i)
+
+-- the table with a row put in another's place; where no row is left it rests where the old one stood (T-02)
 unfoldable pub placed : Table → ℕ → Row → Table
 placed t i r =
     record {
       rows = set (t .rows) i r;
-      head =
-          summed (t .head) (t .head .total + weightIn r - weightIn (row t i)) (t .head .sum + momentIn r - momentIn (row t i));
+      head = summed (t .head) (totalWith t i r) (sumWith t i r) (restAfter (totalWith t i r) (row t i .position));
     }
 
 -- the table with a slice out, or with none

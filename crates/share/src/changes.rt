@@ -6,6 +6,7 @@ ghost use Rattle.share.specs.Events as events;
 ghost use Rattle.share.specs.Release as release;
 ghost use Rattle.share.specs.Table as table;
 use crate::Table;
+use head::rest_after;
 use rows::BLANK;
 use rows::Row;
 use rows::State;
@@ -30,7 +31,7 @@ impl Table {
         self.rows[at]
     }
 
-    // A row in another's place: the old row's share leaves W and A, the new row's enters.
+    // A row in another's place: the old row's share leaves W and A, the new row's enters; where no row is left, the table rests where the old one stood.
     fn placed(self, queue: u64, row: Row) -> Table
         requires { ⌜ asks.Placing self queue row ⌝ }
         ensures { λ r. ⌜ r ≡ table.placed self queue row ⌝ }
@@ -41,6 +42,7 @@ impl Table {
         t.rows[at] = row;
         t.head.total = exchanged(t.head.total, old.weight, row.weight);
         t.head.sum = exchanged(t.head.sum, moment(old), moment(row));
+        t.head.resting = rest_after(t.head.total, old.position);
         t
     }
 

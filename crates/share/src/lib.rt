@@ -64,6 +64,7 @@ impl Table {
             head: Head {
                 total: 0,
                 sum: 0,
+                resting: 0,
                 terms,
                 out: false,
                 holder: 0,
@@ -79,7 +80,7 @@ impl Table {
         Table::empty(Table::LEAST_TERMS).apply(Event::Fresh { terms })
     }
 
-    // The queue enters at the least whole number not below V and opens its first request.
+    // The queue enters at the least whole number not below V, or where an empty table rests, and opens its first request.
     pub fn join(self, queue: u64, weight: u64, length: u64) -> Reply
         ensures { λ r. ⌜ r ≡ joinReply self queue weight length ⌝ }
     {

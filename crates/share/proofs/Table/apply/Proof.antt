@@ -40,7 +40,7 @@ use Rattle.share.proofs.Settling.{placed-settling, settling-calm}
 use Rattle.share.proofs.Sound.{sound-says, says-sound}
 use Rattle.share.proofs.Stepping.{none-applies-to, verdict-refused, verdict-fine, told-ahead, same-checks}
 use Rattle.share.proofs.Surveys.{may-survey, survey-tells}
-use Rattle.share.proofs.Totals.{total-most, sums-true, exchange-moments}
+use Rattle.share.proofs.Totals.{total-most, weighed, exchange-moments}
 use Rattle.share.proofs.Walk.{Walking, walking-starts, walking-light, walking-room, walking-next, walk-ends}
 use Rattle.share.proofs.Table.apply.Statement.{statement}
 use Rattle.share.proofs.Table.apply.Tie as tie
@@ -287,7 +287,7 @@ slice-for-requires c κs =
     g .was-sound .orderly-table .each (at (judged fine))
 
 -- the table changed in place
-granted-as : (t : Table) (queue slice : ℕ) → queue ≡ chosen t → slice ≡ sliceGiven t → record { answer = Granted queue slice; table = record { rows = t .rows; head = record { total = t .head .total; sum = t .head .sum; terms = t .head .terms; out = true; holder = queue; ticks = slice } } } ≡ doneBy t Grant
+granted-as : (t : Table) (queue slice : ℕ) → queue ≡ chosen t → slice ≡ sliceGiven t → record { answer = Granted queue slice; table = record { rows = t .rows; head = record { total = t .head .total; sum = t .head .sum; resting = t .head .resting; terms = t .head .terms; out = true; holder = queue; ticks = slice } } } ≡ doneBy t Grant
 unfolding granted withSlice sliced
 granted-as t queue slice q s = rw (q, s) refl
 
@@ -423,13 +423,13 @@ module _ (c : tie.After-exchanged Inv-loop μ-loop) where
   event-back = event-of (charged-at (c .before))
 
   abbrev changed-table : Table
-  changed-table = record { rows = set (holding event-back .rows) (place-of event-back) (charged-at (c .before) .charged .result); head = record { total = holding event-back .head .total; sum = c .exchanged .result; terms = holding event-back .head .terms; out = false; holder = 0; ticks = 0 } }
+  changed-table = record { rows = set (holding event-back .rows) (place-of event-back) (charged-at (c .before) .charged .result); head = record { total = holding event-back .head .total; sum = c .exchanged .result; resting = holding event-back .head .resting; terms = holding event-back .head .terms; out = false; holder = 0; ticks = 0 } }
 
   changed : changed-table ≡ came-in event-back
   unfolding row
   changed =
       let e = event-back in
-      ap (λ (r : Row). record { rows = set (holding e .rows) (place-of e) r; head = record { total = holding e .head .total; sum = c .exchanged .result; terms = holding e .head .terms; out = false; holder = 0; ticks = 0 } }) (charged-at (c .before) .charged .ensures)
+      ap (λ (r : Row). record { rows = set (holding e .rows) (place-of e) r; head = record { total = holding e .head .total; sum = c .exchanged .result; resting = holding e .head .resting; terms = holding e .head .terms; out = false; holder = 0; ticks = 0 } }) (charged-at (c .before) .charged .ensures)
       ∙ in-place (holding e) (place-of e) (used e) (returning e) (early e) (c .exchanged .result)
       (c .exchanged .ensures ∙ as-sum _ (part-out (c .before)) (part-into (c .before)))
 
@@ -459,7 +459,7 @@ returns-9 c =
     let nearest = survey-told (judged (nothing-against e)) .survey .result .nearest in
     let above : changed-table x .head .sum < nearest * changed-table x .head .total = reached-no _ _ _ (sym (c .before .reached .ensures) ∙ c .if2 .left) in
     let calm = settling-calm (came-in e) nearest (settling e) (subst (λ (u : Table). u .head .sum < nearest * u .head .total) (changed x) above) in
-    ap accepted (changed x ∙ frees-released (sums-true (settling e .orderly)) (frees-done calm)) ∙ return-done e
+    ap accepted (changed x ∙ frees-released (weighed (settling e .orderly)) (frees-done calm)) ∙ return-done e
 
 pub apply-spec : {M : Type 1} → statement M
 apply-spec =

@@ -36,14 +36,18 @@ exchanged-requires-2 c κs =
     let start = c .before .before .before .before .before in
     rw (c .before .moment .ensures, c .moment2 .ensures) (exchange-moments (start .args .self) (start .args .queue) (start .args .row) (start .pre))
 
+rest-after-requires : tie.Need-rest-after-requires
+rest-after-requires c κs = search needs
+
 returns : tie.Need-returns
 unfolding row placed summed
 returns c =
-    let summed-up = c .before in
+    let summed-up = c .before .before .before in
     let weighed = summed-up .before .before .before .before in
     let start = weighed .before .before in
     let t = start .args .self in
     rw (
+      c .before .rest-after .ensures,
       summed-up .exchanged2 .ensures,
       summed-up .before .before .moment .ensures,
       summed-up .before .moment2 .ensures,
@@ -64,4 +68,5 @@ placed-spec =
     moment-requires
     moment-requires-2
     exchanged-requires-2
+    rest-after-requires
     returns)

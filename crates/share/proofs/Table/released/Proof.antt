@@ -7,7 +7,7 @@ use Rattle.share.specs.Release.{freed, Frees, done, released}
 use Rattle.share.specs.Sound.{Ready}
 use Rattle.share.proofs.Keeps.{freed-keeps, still-freed}
 use Rattle.share.proofs.Release.{any-first, same-end, released-frees, goers, goers-fall}
-use Rattle.share.proofs.Totals.{sums-true}
+use Rattle.share.proofs.Totals.{weighed}
 use Rattle.share.proofs.Table.released.Statement.{statement}
 use Rattle.share.proofs.Table.released.Tie as tie
 
@@ -54,11 +54,11 @@ loop-again : tie.Need-loop-again Inv-loop μ-loop
 loop-again c = (
   kept (c .before),
   c .first-ready2 .ensures,
-  rw (turned (c .before)) (any-first (c .before .before .before .loop .i) (sums-true (c .before .before .before .loop .inv .0 .orderly)) (ready-now (c .before)) (c .before .before .before .loop .inv .2)),
+  rw (turned (c .before)) (any-first (c .before .before .before .loop .i) (weighed (c .before .before .before .loop .inv .0 .orderly)) (ready-now (c .before)) (c .before .before .before .loop .inv .2)),
 )
 
 returns : tie.Need-returns Inv-loop μ-loop
-returns c = same-end (sums-true (c .before .loop .inv .0 .orderly)) (done (c .before .loop .inv .1 .done (c .loop-test .left))) (c .before .loop .inv .2)
+returns c = same-end (weighed (c .before .loop .inv .0 .orderly)) (done (c .before .loop .inv .1 .done (c .loop-test .left))) (c .before .loop .inv .2)
 
 pub released-spec : {M : Type 1} → statement M
 released-spec =

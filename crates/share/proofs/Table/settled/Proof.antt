@@ -4,7 +4,7 @@ use Rattle.rows.proofs.Virtual.{reached-no}
 use Rattle.share.specs.Release.{done}
 use Rattle.share.proofs.Release.{frees-released}
 use Rattle.share.proofs.Settling.{settling-crosses, settling-calm}
-use Rattle.share.proofs.Totals.{sums-true}
+use Rattle.share.proofs.Totals.{weighed}
 use borrow.Author.Needs.{needs}
 use Rattle.share.proofs.Table.settled.Statement.{statement}
 use Rattle.share.proofs.Table.settled.Tie as tie
@@ -22,7 +22,7 @@ returns-2 : tie.Need-returns-2
 returns-2 c =
     let s = c .before .before .before in
     let above = reached-no _ _ _ (sym (c .before .reached .ensures) ∙ c .if1 .left) in
-    frees-released (sums-true (s .pre .orderly)) (done (settling-calm (s .args .self) (s .args .nearest) (s .pre) above))
+    frees-released (weighed (s .pre .orderly)) (done (settling-calm (s .args .self) (s .args .nearest) (s .pre) above))
 
 pub settled-spec : {M : Type 1} → statement M
 settled-spec = tie.close (tie.spec reached-requires released-requires returns returns-2)
