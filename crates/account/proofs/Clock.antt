@@ -1,29 +1,22 @@
--- V never falls: each change adds to the account's V a portion of what is not below 0, and a run's table has the account's V.
+-- V never falls: each change adds to the account's V a portion of what is not below 0. Of a run's table `Theorems` has it, by the account's V.
 use mathlib.Core.Bool.{Bool, true, false, cond}
-use mathlib.Core.List.{List, [], _∷_, _++_}
-use mathlib.Core.Path.{_≡_, refl, ap, sym, subst⁻¹, _∙_}
+use mathlib.Core.List.{List, [], _∷_}
+use mathlib.Core.Path.{_≡_, refl, subst⁻¹}
 use Prim.Native.Nat.{ℕ}
 use lib.Dec.{eqb}
 use Rattle.laws.specs.Lists.{all}
-use Rattle.laws.proofs.Tests.{clash, and-left, and-right, and-both}
+use Rattle.laws.proofs.Tests.{clash, and-left, and-right}
 use Rattle.rows.specs.Numbers.{unit}
-use Rattle.head.specs.declared.Event.{Event}
-use Rattle.head.specs.declared.Event.the-variants.{Fresh, Join, Leave, Reweight, Length, Grant, Return}
-use Rattle.head.specs.Answers.{isAccepted}
-use Rattle.share.specs.declared.Table.{Table}
-use Rattle.share.specs.Calls.{step}
-use Rattle.share.specs.Runs.{run}
 use Rattle.fractions.specs.Fraction.{Fraction, whole, nothing, minus, _⊕_, portion, atMost, ceilingOf}
 use Rattle.fractions.proofs.Laws.{at-most-itself, at-most-through, sum-not-less, portion-not-below, short-not-below, whole-not-below, ceiling-reaches}
 use Rattle.account.specs.Account.{Account, entry, isGoing, owedTo, weightIn, isEmpty, passedOn, weightLeft, settled, freed, left, goingAway, newcomer, enteredBeside, enteredAlone, entered, returned, lengthened, made}
 use Rattle.account.specs.Books.{due, Clears, BookedAs, booked, accountFrom}
-use Rattle.account.specs.Changes.{Change, begins, joins, leaves, lengthens, returns, endsInRelease, changesOf}
-use Rattle.account.specs.Clock.{goesOn, changeGoesOn}
-use Rattle.account.specs.Counted.{countedOf, counted}
+use Rattle.account.specs.Changes.{Change, begins, joins, leaves, lengthens, returns, endsInRelease}
+use Rattle.account.specs.Clock.{changeGoesOn}
 use Rattle.account.proofs.Clearing.{booked-as}
 
 -- the account's V before is at most its V after
-abbrev Rises : Account → Account → Type 0
+abbrev pub Rises : Account → Account → Type 0
 Rises a b = atMost (a .virtual) (b .virtual) ≡ true
 
 -- what a departure passes on is not below 0, where the account was not
@@ -97,54 +90,3 @@ account-rises a [] h = at-most-itself (a .virtual)
 account-rises a (c ∷ cs) h =
     at-most-through (a .virtual) (booked a c .virtual) (accountFrom (booked a c) cs .virtual) (booked-rises a c (and-left _ _ h))
     (account-rises (booked a c) cs (and-right (changeGoesOn c) _ h))
-
--- an event that goes on with the run counts as changes that do
-changes-go-on : (e : Event) → goesOn e ≡ true → all changeGoesOn (changesOf e) ≡ true
-changes-go-on (Fresh terms) h = absurd (clash h refl)
-changes-go-on (Join queue weight length) h = refl
-changes-go-on (Leave queue) h = refl
-changes-go-on (Reweight queue weight length) h = refl
-changes-go-on (Length queue length) h = refl
-changes-go-on Grant h = refl
-changes-go-on (Return queue used early) h = refl
-
-all-append {ℓ} : {A : Type ℓ} (p : A → Bool) (xs ys : List A) → all p xs ≡ true → all p ys ≡ true → all p (xs ++ ys) ≡ true
-all-append p [] ys h k = k
-all-append p (x ∷ xs) ys h k = and-both {a = p x} (and-left _ _ h) (all-append p xs ys (and-right (p x) _ h) k)
-
-counted-go-on : (t : Table) (es : List Event) → all goesOn es ≡ true → all changeGoesOn (counted t es) ≡ true
-unfolding countedOf
-counted-go-on t [] h = refl
-counted-go-on t (e ∷ es) h =
-    all-append changeGoesOn (countedOf (step t e) e) (counted (step t e .table) es) (by (isAccepted (step t e .answer)))
-    (counted-go-on (step t e .table) es (and-right (goesOn e) _ h))
-  where
-    by : (b : Bool) → all changeGoesOn (cond b (changesOf e) []) ≡ true
-    by true = changes-go-on e (and-left _ _ h)
-    by false = refl
-
--- a run in two parts
-pub run-append : (t : Table) (es fs : List Event) → run t (es ++ fs) ≡ run (run t es) fs
-run-append t [] fs = refl
-run-append t (e ∷ es) fs = run-append (step t e .table) es fs
-
-append-grouped {ℓ} : {A : Type ℓ} (xs ys zs : List A) → (xs ++ ys) ++ zs ≡ xs ++ (ys ++ zs)
-append-grouped [] ys zs = refl
-append-grouped (x ∷ xs) ys zs = ap (λ (l : List _). x ∷ l) (append-grouped xs ys zs)
-
-counted-append : (t : Table) (es fs : List Event) → counted t (es ++ fs) ≡ counted t es ++ counted (run t es) fs
-counted-append t [] fs = refl
-counted-append t (e ∷ es) fs =
-    ap (λ (l : List Change). countedOf (step t e) e ++ l) (counted-append (step t e .table) es fs)
-    ∙ sym (append-grouped (countedOf (step t e) e) (counted (step t e .table) es) (counted (run (step t e .table) es) fs))
-
-accountFrom-append : (a : Account) (cs ds : List Change) → accountFrom a (cs ++ ds) ≡ accountFrom (accountFrom a cs) ds
-accountFrom-append a [] ds = refl
-accountFrom-append a (c ∷ cs) ds = accountFrom-append (booked a c) cs ds
-
--- the account's V over a further part of a run
-pub further-rises : (t : Table) (a : Account) (es fs : List Event) → all goesOn fs ≡ true → Rises (accountFrom a (counted t es)) (accountFrom a (counted t (es ++ fs)))
-further-rises t a es fs h =
-    subst⁻¹ (λ (b : Account). Rises (accountFrom a (counted t es)) b)
-    (ap (accountFrom a) (counted-append t es fs) ∙ accountFrom-append a (counted t es) (counted (run t es) fs))
-    (account-rises (accountFrom a (counted t es)) (counted (run t es) fs) (counted-go-on (run t es) fs h))
