@@ -15,8 +15,8 @@ use Rattle.share.specs.declared.Table.{Table}
 use Rattle.share.specs.Calls.{lagList}
 use Rattle.share.specs.Sound.{Sound}
 use Rattle.share.specs.Table.{row}
-use Rattle.calls.specs.Public.{Call, event, release, report, answered, tableOf, eventsOf}
-use Rattle.calls.proofs.Answering.{report-table}
+use Rattle.calls.specs.Public.{Call, event, release, report, standing, answered, tableOf, eventsOf}
+use Rattle.calls.proofs.Answering.{report-table, standing-table}
 use Rattle.calls.proofs.Calling.{release-table, from-fresh}
 use Rattle.calls.proofs.Soundness.{run-sound}
 use Rattle.fractions.specs.Signed.{summed}
@@ -60,12 +60,14 @@ events-append [] ds = refl
 events-append (event e ∷ cs) ds = ap (λ (es : List Event). e ∷ es) (events-append cs ds)
 events-append (release ∷ cs) ds = events-append cs ds
 events-append (report lent ∷ cs) ds = events-append cs ds
+events-append (standing queue ∷ cs) ds = events-append cs ds
 
 events-go-on : (ds : List Call) → all callGoesOn ds ≡ true → all goesOn (eventsOf ds) ≡ true
 events-go-on [] h = refl
 events-go-on (event e ∷ ds) h = and-both {a = goesOn e} (and-left _ _ h) (events-go-on ds (and-right (goesOn e) _ h))
 events-go-on (release ∷ ds) h = events-go-on ds h
 events-go-on (report lent ∷ ds) h = events-go-on ds h
+events-go-on (standing queue ∷ ds) h = events-go-on ds h
 
 pub V-steady : (terms : Terms) → Allowed terms → (cs ds : List Call) → all callGoesOn ds ≡ true → atMost (virtualTime (tableOf terms cs)) (virtualTime (tableOf terms (cs ++ ds))) ≡ true
 V-steady terms is-allowed cs ds h =
@@ -79,3 +81,4 @@ pub alters-only : (t : Table) (c : Call) (i : ℕ) → namedBy c i ≡ false →
 alters-only t (event e) i h = Frames.alters-only t e i h
 alters-only t release i h = same (ap (λ (u : Table). row u i) (release-table t))
 alters-only t (report lent) i h = same (ap (λ (u : Table). row u i) (report-table t lent))
+alters-only t (standing queue) i h = same (ap (λ (u : Table). row u i) (standing-table t queue))

@@ -13,11 +13,13 @@ use lib.ListN.{length, take}
 use lib.Signed.{mag}
 use Rattle.laws.specs.Lists.{all}
 use Rattle.rows.specs.declared.Row.{Row}
+use Rattle.rows.specs.declared.Standing.{Standing}
 use Rattle.rows.specs.declared.Terms.{Terms}
 use Rattle.rows.specs.Numbers.{unit, queues, leastTerms, stepOf, maxWeight}
 use Rattle.rows.specs.Orderly.{Allowed}
 use Rattle.rows.specs.Row.{isFree, isGoing, blank}
-use Rattle.head.specs.declared.Answer.the-variants.{Granted}
+use Rattle.rows.specs.Virtual.{notAhead}
+use Rattle.head.specs.declared.Answer.the-variants.{Granted, Stands}
 use Rattle.head.specs.declared.Event.{Event}
 use Rattle.head.specs.declared.Event.the-variants.{Fresh, Join, Leave, Reweight, Length, Grant, Return}
 use Rattle.head.specs.declared.Head.{Head}
@@ -27,14 +29,14 @@ use Rattle.head.specs.Answers.{refusalNumber, number, sliceGranted, queueGrante
 use Rattle.head.specs.Lag.{lagOf}
 use Rattle.head.specs.Refusals.{firstOf}
 use Rattle.share.specs.declared.Table.{Table}
-use Rattle.share.specs.Calls.{refused, accepted, checksOf, grantReply, lagReply, lagList, releaseReply, freshReply, step}
+use Rattle.share.specs.Calls.{refused, accepted, checksOf, grantReply, lagReply, lagList, standingReply, releaseReply, freshReply, step}
 use Rattle.share.specs.Choice.{eligible, deadline, Chosen}
 use Rattle.share.specs.Events.{emptyTable, meant}
 use Rattle.share.specs.Release.{Frees, released, freed, Weighed}
 use Rattle.share.specs.Sound.{Sound, Orderly}
 use Rattle.share.specs.Table.{row, AtMostV, TrueSums}
 use Rattle.calls.specs.Against.{NoneLower, Against, LimitWrong, OnTable}
-use Rattle.calls.specs.Meaning.{FreshMeans, JoinMeans, LeaveMeans, ReweightMeans, LengthMeans, GrantMeans, ReturnMeans, LastFreed, NotBelow0}
+use Rattle.calls.specs.Meaning.{FreshMeans, JoinMeans, LeaveMeans, ReweightMeans, LengthMeans, GrantMeans, ReturnMeans, LastFreed, StandsAs, NotBelow0}
 use Rattle.calls.specs.Public.{HandedBack, tableOf, Call, answered, doneOn, event}
 use Rattle.calls.specs.Rightly.{Rightly}
 use Rattle.fractions.specs.Fraction.{nothing, _~_, atMost, total, _⊕_}
@@ -68,6 +70,7 @@ use Rattle.calls.proofs.Exactly as Exactly
 use Rattle.calls.proofs.Figures as Figures
 use Rattle.rows.proofs.Steps as Steps
 use Rattle.calls.proofs.Granting as Granting
+use Rattle.calls.proofs.Panel as Panel
 use Rattle.calls.proofs.Resting as Resting
 use Rattle.account.proofs.Called as Called
 use Rattle.account.proofs.Clock as Clock
@@ -106,6 +109,9 @@ refused-hands-the-table-back = Calling.refused-table
 
 pub report-hands-the-table-back : (t : Table) (lent : List ℤ) → lagReply t lent .table ≡ t
 report-hands-the-table-back = Answering.report-table
+
+pub standing-hands-the-table-back : (t : Table) (queue : ℕ) → standingReply t queue .table ≡ t
+standing-hands-the-table-back = Answering.standing-table
 
 pub release-hands-the-table-back : (t : Table) → Sound t → releaseReply t ≡ accepted t
 release-hands-the-table-back = Calling.release-sound
@@ -156,6 +162,14 @@ leave-means = Departed.leave-means
 -- "Lag of a row ...: positive when the engine owes it time.": it is 0 or more exactly when V has reached the row
 pub lag-sign : (t : Table) → Orderly t → (i : ℕ) → isFree (row t i .state) ≡ false → AtMostV t (row t i .position) ↔ NotBelow0 (lagOf (t .head) (row t i))
 lag-sign = Standing.lag-sign
+
+-- T-05: where a row stands, as the panel is told. Behind V is a lag above 0, level one of 0, ahead one below 0, and the number is the least by which V has to
+-- rise (`StandsAs`); the test whether V has reached a position is that it is not ahead
+pub standing-means : (t : Table) (queue : ℕ) (s : Standing) → standingReply t queue .answer ≡ Stands s → StandsAs t queue s
+standing-means = Panel.standing-means
+
+pub reached-is-not-ahead : (h : Head) (position : ℕ) → (notAhead (Head.standingBy h position) ≡ true) ↔ Head.AtMostV h position
+reached-is-not-ahead = Panel.reached-not-ahead
 
 -- so a queue that leaves is freed, and a going row released, exactly when its lag is 0 or more (and refusal 9 is said by the lag, in `Against`)
 pub left-by-its-lag : (t : Table) (queue : ℕ) → number (step t (Leave queue) .answer) ≡ 0 → (row (step t (Leave queue) .table) queue ≡ blank) ↔ NotBelow0 (lagOf (t .head) (row t queue))

@@ -16,12 +16,13 @@ use Rattle.rows.specs.Numbers.{queues}
 use Rattle.rows.specs.Requests.{nextSet}
 use Rattle.rows.specs.Row.{blank, isFree, isAsking, weightIn as rowWeight, momentIn as rowMoment}
 use Rattle.rows.proofs.Virtual.{reached-yes, yes-reached}
+use Rattle.rows.proofs.Shares.{asking-not-free}
 use Rattle.head.specs.Head.{sliced, emptyHead}
 use Rattle.share.specs.declared.Table.{Table}
 use Rattle.share.specs.Events.{emptyTable, leaving}
 use Rattle.share.specs.Release.{freed}
 use Rattle.share.specs.Table.{row, trueTotal, trueSum, AtMostV, reached, placed, withSlice}
-use Rattle.calls.proofs.OneDeparture.{weight-here, asking-not-free}
+use Rattle.calls.proofs.OneDeparture.{weight-here}
 use Rattle.fractions.proofs.Values.{value-nothing}
 use Rattle.account.specs.Account.{Entry, absent, present, Account, entry, settled, goingAway, noOne}
 use Rattle.account.proofs.Match.{Alike, placed-total, placed-sum, set-both, match-set, blank-alike, placed-terms}

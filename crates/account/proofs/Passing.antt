@@ -11,6 +11,7 @@ use Rattle.rows.specs.declared.Row.{Row}
 use Rattle.rows.specs.Numbers.{unit}
 use Rattle.rows.specs.Row.{blank, isFree, weightIn}
 use Rattle.rows.proofs.Virtual.{yes-reached}
+use Rattle.rows.proofs.Shares.{asking-not-free, going-not-free}
 use Rattle.head.specs.declared.Event.the-variants.{Leave}
 use Rattle.head.specs.Answers.{number}
 use Rattle.head.specs.Lag.{lagUnit}
@@ -28,7 +29,7 @@ use Rattle.share.proofs.Totals.{sums-true}
 use Rattle.calls.proofs.Answering.{step-done}
 use Rattle.calls.proofs.Exactly.{becomes}
 use Rattle.calls.proofs.Meaning.{accepted-none}
-use Rattle.calls.proofs.OneDeparture.{asking-not-free, going-not-free, weight-here, moment-here}
+use Rattle.calls.proofs.OneDeparture.{weight-here, moment-here}
 use Rattle.fractions.specs.Fraction.{_⊕_, _~_}
 use Rattle.fractions.proofs.Laws.{through, turned, sum-same, sum-nothing, sum-grouped}
 use Rattle.fractions.proofs.Values.{Value, value-over, value-portion, value-sum, value-change, same-value}

@@ -13,6 +13,7 @@ use Rattle.laws.proofs.Tests.{clash, le-or-lt, and-left, and-right, and-both}
 use Rattle.rows.specs.declared.Row.{Row}
 use Rattle.rows.specs.Numbers.{queues, unit}
 use Rattle.rows.specs.Row.{blank, isFree, isGoing, weightIn as rowWeight}
+use Rattle.rows.proofs.Shares.{going-not-free}
 use Rattle.share.specs.declared.Table.{Table}
 use Rattle.share.specs.Release.{freed, Frees, done, one, Weighed, released}
 use Rattle.share.specs.Sound.{Ready}
@@ -20,7 +21,7 @@ use Rattle.share.specs.Table.{row, AtMostV, TrueSums}
 use Rattle.share.proofs.Placed.{weight-within, no-sum}
 use Rattle.share.proofs.Release.{freed-rests, frees-released}
 use Rattle.share.proofs.Sound.{row-past}
-use Rattle.calls.proofs.OneDeparture.{weight-here, going-not-free}
+use Rattle.calls.proofs.OneDeparture.{weight-here}
 use Rattle.fractions.specs.Fraction.{Fraction, nothing, _⊕_, portion}
 use Rattle.fractions.proofs.Values.{Value, value-nothing, value-sum, value-any-portion, value-change, value-at-most, at-most-value}
 use Rattle.account.specs.Account.{Entry, absent, Account, entry, owedTo, allGain, passedOn, rest, weightLeft, settled}

@@ -2,7 +2,7 @@
 use mathlib.Core.Bool.{Bool, true, false}
 use Rattle.head.specs.declared.Event.{Event}
 use Rattle.head.specs.declared.Event.the-variants.{Fresh, Join, Leave, Reweight, Length, Grant, Return}
-use Rattle.calls.specs.Public.{Call, event, release, report}
+use Rattle.calls.specs.Public.{Call, event, release, report, standing}
 use Rattle.account.specs.Changes.{Change, begins, joins, leaves, lengthens, returns}
 
 abbrev pub goesOn : Event → Bool
@@ -18,6 +18,7 @@ abbrev pub callGoesOn : Call → Bool
 callGoesOn (event e) = goesOn e
 callGoesOn release = true
 callGoesOn (report lent) = true
+callGoesOn (standing queue) = true
 
 abbrev pub changeGoesOn : Change → Bool
 changeGoesOn (begins terms) = false

@@ -31,6 +31,6 @@ accountOf terms calls = accountFrom (noOne terms) (changes terms calls)
 unfoldable pub tableAfter : Terms → List Event → Table
 tableAfter terms calls = run (emptyTable terms) calls
 
--- of a run of calls: a release and a lag report change no account
+-- of a run of calls: a release, a lag report and the panel's question change no account
 abbrev pub accountOfCalls : Terms → List Call → Account
 accountOfCalls terms cs = accountOf terms (eventsOf cs)

@@ -3,7 +3,7 @@ use mathlib.Core.Bool.{Bool, true, false}
 use mathlib.Core.Path.{_≡_}
 use Prim.Native.Nat.{ℕ}
 use lib.Dec.{eqb}
-use Rattle.calls.specs.Public.{Call, event, release, report}
+use Rattle.calls.specs.Public.{Call, event, release, report, standing}
 use Rattle.rows.specs.declared.Row.{Row}
 use Rattle.rows.specs.Row.{blank, isGoing}
 use Rattle.head.specs.declared.Event.{Event}
@@ -19,11 +19,12 @@ names (Length queue length) i = eqb i queue
 names Grant i = false
 names (Return queue used early) i = eqb i queue
 
--- a release and a lag report name none
+-- a release, a lag report and the panel's question name none
 abbrev pub namedBy : Call → ℕ → Bool
 namedBy (event e) i = names e i
 namedBy release i = false
 namedBy (report lent) i = false
+namedBy (standing queue) i = false
 
 -- a row is as it was, or was going and is released
 pub data Stays (before after : Row) : Type 0 where

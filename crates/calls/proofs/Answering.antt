@@ -4,7 +4,7 @@ use mathlib.Core.List.{List}
 use mathlib.Core.Logic.{_≢_}
 use mathlib.Core.Option.{Option, none, some}
 use mathlib.Core.Path.{_≡_, refl, ap, _∙_}
-use Prim.Native.Nat.{_≤_}
+use Prim.Native.Nat.{ℕ, _≤_}
 use lib.IntN.{ℤ}
 use Rattle.head.specs.declared.Event.{Event}
 use Rattle.head.specs.declared.Event.the-variants.{Fresh, Join, Leave, Reweight, Length, Grant, Return}
@@ -14,14 +14,14 @@ use Rattle.head.specs.Head.{concerns}
 use Rattle.head.specs.Refusals.{firstOf}
 use Rattle.share.specs.declared.Reply.{Reply}
 use Rattle.share.specs.declared.Table.{Table}
-use Rattle.share.specs.Calls.{call, reportedReply, lagReply, lagList, lagChecks, step, checksOf, doneBy}
+use Rattle.share.specs.Calls.{call, reportedReply, lagReply, lagList, lagChecks, standingChecks, standsReply, standingReply, step, checksOf, doneBy}
 use Rattle.share.specs.Events.{chosen}
 use Rattle.share.specs.Sound.{sound}
 use Rattle.share.specs.Table.{row}
 use Rattle.share.proofs.Stepping.{call-refused, call-accepted}
 use Rattle.calls.specs.Public.{HandedBack}
 use Rattle.calls.proofs.Applying.{Applies, ordered, first-lowest, event-ordered}
-use Rattle.calls.proofs.Replies.{refused-handed-back}
+use Rattle.calls.proofs.Replies.{call-cases, refused-handed-back}
 
 pub checks-ordered : (t : Table) (e : Event) → ordered 0 (checksOf t e) ≡ true
 unfolding checksOf
@@ -65,6 +65,12 @@ report-table t given = by (firstOf (lagChecks t given)) refl
     by : (o : Option Refusal) → firstOf (lagChecks t given) ≡ o → call (lagChecks t given) t (reportedReply t) .table ≡ t
     by none is = ap (λ (r : Reply). r .table) (call-accepted (lagChecks t given) t (reportedReply t) is)
     by (some why) is = ap (λ (r : Reply). r .table) (call-refused (lagChecks t given) t (reportedReply t) why is)
+
+-- and so does the panel's question
+pub standing-table : (t : Table) (queue : ℕ) → standingReply t queue .table ≡ t
+unfolding standingReply
+standing-table t queue =
+    call-cases (λ (r : Reply). r .table ≡ t) (standingChecks t queue) t (standsReply t (row t queue .position)) (λ why is. refl) (λ fine. refl)
 
 pub refused-list : (t : Table) (given : List ℤ) → number (lagReply t given .answer) ≢ 0 → lagList t given ≡ given
 unfolding lagReply lagList

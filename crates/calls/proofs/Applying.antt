@@ -24,7 +24,7 @@ use Rattle.head.specs.Answers.{refusalNumber}
 use Rattle.head.specs.Head.{isEmpty}
 use Rattle.head.specs.Refusals.{Check, _when_, firstOf, queueOutside, lengthOutside, notHolder, lagBelow, checksFor}
 use Rattle.share.specs.declared.Table.{Table}
-use Rattle.share.specs.Calls.{releaseChecks, lagChecks}
+use Rattle.share.specs.Calls.{releaseChecks, lagChecks, standingChecks}
 use Rattle.share.specs.Sound.{Sound, sound}
 use Rattle.share.proofs.Accepted.{head-none}
 use Rattle.share.proofs.Sound.{sound-says, says-sound}
@@ -83,7 +83,7 @@ some-first (some given) h = (given, refl)
 pub applies-given : (checks : List Check) (why : Refusal) → Applies why checks → (given : Refusal) × (firstOf checks ≡ some given)
 applies-given checks why applies = some-first (firstOf checks) (none-applies applies)
 
--- each event's list is in the order of its numbers, whatever the table and the numbers are, and so are those of the other two calls
+-- each event's list is in the order of its numbers, whatever the table and the numbers are, and so are those of the other calls
 pub event-ordered : (b : Bool) (h : Head) (r : Row) (e : Event) → ordered 0 (checksFor b h r e) ≡ true
 unfolding every checksFor
 event-ordered b h r (Fresh terms) = refl
@@ -101,6 +101,10 @@ release-ordered t = refl
 pub lag-ordered : (t : Table) (given : List ℤ) → ordered 0 (lagChecks t given) ≡ true
 unfolding every lagChecks
 lag-ordered t given = refl
+
+pub standing-ordered : (t : Table) (queue : ℕ) → ordered 0 (standingChecks t queue) ≡ true
+unfolding every standingChecks
+standing-ordered t queue = refl
 
 -- the tests, each with its sentence; both ways, so that each is given exactly when it says (rows' proofs/Orderly has
 -- `outside-says`)

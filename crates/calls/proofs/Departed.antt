@@ -12,6 +12,7 @@ use Rattle.rows.specs.declared.Row.{Row}
 use Rattle.rows.specs.declared.State.the-variants.{Going}
 use Rattle.rows.specs.Row.{blank, isFree, isGoing}
 use Rattle.rows.proofs.Virtual.{reached-yes, yes-reached}
+use Rattle.rows.proofs.Shares.{asking-not-free}
 use Rattle.head.specs.declared.Event.the-variants.{Join, Leave, Reweight}
 use Rattle.head.specs.Answers.{number}
 use Rattle.head.specs.Refusals.{firstOf, rowTaken, checksFor}
@@ -32,7 +33,7 @@ use Rattle.share.proofs.Sound.{says-sound}
 use Rattle.share.proofs.Totals.{sums-true, weighed}
 use Rattle.calls.specs.Meaning.{SameSums, ComesToRest, LeaveMeans, ReweightMeans}
 use Rattle.calls.proofs.Answering.{step-done}
-use Rattle.calls.proofs.OneDeparture.{asking-not-free, going-keeps-W, going-keeps-A}
+use Rattle.calls.proofs.OneDeparture.{going-keeps-W, going-keeps-A}
 use Rattle.calls.proofs.Releasing.{put-row, put-slice, put-terms, put-release}
 use Rattle.calls.proofs.Resting.{comes-to-rest, release-ends, freed-heavy, orderly-heavy}
 use Rattle.calls.proofs.Meaning.{accepted-none}

@@ -9,13 +9,13 @@ use Rattle.laws.proofs.Means.{still-reached}
 use Rattle.laws.proofs.Tests.{clash}
 use Rattle.rows.specs.declared.Row.{Row}
 use Rattle.rows.specs.Row.{blank, isFree, isGoing}
+use Rattle.rows.proofs.Shares.{going-not-free}
 use Rattle.share.specs.declared.Table.{Table}
 use Rattle.share.specs.Release.{freed, Frees, done, one, released}
 use Rattle.share.specs.Sound.{Ready}
 use Rattle.share.specs.Table.{row, AtMostV}
 use Rattle.share.proofs.Keeps.{frees-calm}
 use Rattle.share.proofs.Release.{freed-total, freed-sum, freed-same, freed-other, ready-weight, ready-moment, released-frees}
-use Rattle.calls.proofs.OneDeparture.{going-not-free}
 
 -- V does not fall below a position it has reached
 still-level : (t : Table) (i p : ℕ) → Ready t i → AtMostV t p → AtMostV (freed t i) p

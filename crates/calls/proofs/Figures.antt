@@ -24,7 +24,7 @@ use Rattle.share.specs.Calls.{step, checksOf, doneBy}
 use Rattle.share.specs.Sound.{Orderly}
 use Rattle.share.specs.Table.{row}
 use Rattle.share.proofs.Totals.{head-small}
-use Rattle.calls.specs.Public.{event, answered, checksOn, doneOn, Call, report, release}
+use Rattle.calls.specs.Public.{event, answered, checksOn, doneOn, Call, report, release, standing}
 use Rattle.calls.proofs.Calling.{answered-is}
 use Rattle.calls.proofs.Replies.{call-cases}
 
@@ -92,6 +92,7 @@ done-names-none t (event Grant) h = absurd (h refl)
 done-names-none t (event (Return q u early)) h = (refl, refl)
 done-names-none t release h = (refl, refl)
 done-names-none t (report lent) h = (refl, refl)
+done-names-none t (standing q) h = (refl, refl)
 
 pub names-no-queue : (t : Table) (c : Call) → c ≢ event Grant → (queueGranted (answered t c .answer) ≡ 0) × (sliceGranted (answered t c .answer) ≡ 0)
 names-no-queue t c h = subst⁻¹ Unspoken (answered-is t c) (call-cases Unspoken (checksOn t c) t (doneOn t c) (λ why is. (refl, refl)) (λ fine. done-names-none t c h))

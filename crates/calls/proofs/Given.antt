@@ -29,16 +29,16 @@ use Rattle.head.specs.Lag.{lagOf}
 use Rattle.head.specs.Refusals.{Check, _when_, checksFor, rowTaken, notAsking, ticksOutside, ceilingPassed, passedAs, firstOf, lagBelow}
 use Rattle.share.specs.declared.Reply.{Reply}
 use Rattle.share.specs.declared.Table.{Table}
-use Rattle.share.specs.Calls.{refused, checksOf, releaseChecks, lagChecks, freshReply}
+use Rattle.share.specs.Calls.{refused, checksOf, releaseChecks, lagChecks, standingChecks, freshReply}
 use Rattle.share.specs.Choice.{eligible, deadline, choice}
 use Rattle.share.specs.Events.{chosenOr0, chosen, emptyTable}
 use Rattle.share.specs.Sound.{Sound, sound}
 use Rattle.share.specs.Table.{row, AtMostV}
 use Rattle.share.proofs.Mean.{chosen-rightly}
 use Rattle.share.proofs.Sound.{sound-says, says-sound}
-use Rattle.calls.specs.Against.{Against, fresh-14, join-1, join-2, join-3, join-4, join-5, join-7, leave-1, leave-2, leave-5, leave-8, reweight-1, reweight-2, reweight-3, reweight-4, reweight-5, reweight-8, reweight-9, length-1, length-2, length-4, length-5, length-8, grant-1, grant-5, grant-11, grant-12, return-1, return-2, return-6, return-10, release-1, report-1, report-13, PastCeiling, NotSound, OnTable, NoneLower, LimitWrong, Owes}
+use Rattle.calls.specs.Against.{Against, fresh-14, join-1, join-2, join-3, join-4, join-5, join-7, leave-1, leave-2, leave-5, leave-8, reweight-1, reweight-2, reweight-3, reweight-4, reweight-5, reweight-8, reweight-9, length-1, length-2, length-4, length-5, length-8, grant-1, grant-5, grant-11, grant-12, return-1, return-2, return-6, return-10, release-1, report-1, report-13, standing-1, standing-2, standing-31, PastCeiling, NotSound, OnTable, NoneLower, LimitWrong, Owes}
 use Rattle.calls.specs.Meaning.{NotBelow0}
-use Rattle.calls.specs.Public.{HandedBack, doneOn, Call, event, release, report, checksOn, answered}
+use Rattle.calls.specs.Public.{HandedBack, doneOn, Call, event, release, report, standing, checksOn, answered}
 use Rattle.calls.proofs.Applying.{none-applies, Applies, here, later, queue-outside, length-outside, unsound-says, not-holder-says, lag-below-says, empty-says, first-applies, applies-given, first-lowest, lowest-first}
 use Rattle.calls.proofs.Calling.{answered-done, answered-refused, on-ordered, done-number}
 use Rattle.calls.proofs.Choosing.{chosen-choice}
@@ -174,15 +174,20 @@ module _ (t : Table) (is : Sound t) where
       (no-more (Against t (event (Return q u early)))))))
 
   reads : (c : Call) (why : Refusal) → Applies why (checksOn t c) → Against t c why
-  unfolding releaseChecks lagChecks
+  unfolding releaseChecks lagChecks standingChecks
   reads (event e) why = reads-event e
   reads release why = first-of (Against t release) (λ p. release-1 (unsound-says t .0 p)) (no-more (Against t release))
   reads (report lent) why =
       first-of (Against t (report lent)) (λ p. report-1 (unsound-says t .0 p))
       (first-of (Against t (report lent)) (λ p. report-13 (ltb-true _ _ p)) (no-more (Against t (report lent))))
+  reads (standing q) why =
+      first-of (Against t (standing q)) (λ p. standing-1 (unsound-says t .0 p))
+      (first-of (Against t (standing q)) (λ p. standing-2 (queue-outside q .0 p))
+      (first-of (Against t (standing q)) (λ p. standing-31 p)
+      (no-more (Against t (standing q)))))
 
   back : {c : Call} {why : Refusal} → Against t c why → Applies why (checksOn t c)
-  unfolding checksOf checksFor rowTaken notAsking ticksOutside limitOutside releaseChecks lagChecks
+  unfolding checksOf checksFor rowTaken notAsking ticksOutside limitOutside releaseChecks lagChecks standingChecks
   back (fresh-14 {terms} h) = here (says-outside 1 maxLimit (terms .limit) h)
   back (join-1 h) = here (unsound-says t .1 h)
   back (join-2 {q} h) = later (here (queue-outside q .1 h))
@@ -217,6 +222,9 @@ module _ (t : Table) (is : Sound t) where
   back (release-1 h) = here (unsound-says t .1 h)
   back (report-1 h) = here (unsound-says t .1 h)
   back (report-13 h) = later (here (lt-ltb _ _ h))
+  back (standing-1 h) = here (unsound-says t .1 h)
+  back (standing-2 {q} h) = later (here (queue-outside q .1 h))
+  back (standing-31 h) = later (later (here h))
 
 -- a call whose checks say what speaks against it
 module _ (t : Table) (c : Call) (read : (why : Refusal) → Applies why (checksOn t c) → Against t c why) (unread : (why : Refusal) → Against t c why → Applies why (checksOn t c)) (why : Refusal) where
@@ -257,7 +265,7 @@ module _ (t : Table) (not-sound : NotSound t) where
   fails = refuted (sound t) (λ e. not-sound (sound-says t e))
 
   one-first : (c : Call) → OnTable c → (firstOf (checksOn t c) ≡ some Unsound) × Against t c Unsound
-  unfolding checksOf checksFor releaseChecks lagChecks
+  unfolding checksOf checksFor releaseChecks lagChecks standingChecks
   one-first (event (Fresh terms)) on = absurd on
   one-first (event (Join q w l)) on = (rw fails refl, join-1 not-sound)
   one-first (event (Leave q)) on = (rw fails refl, leave-1 not-sound)
@@ -267,6 +275,7 @@ module _ (t : Table) (not-sound : NotSound t) where
   one-first (event (Return q u early)) on = (rw fails refl, return-1 not-sound)
   one-first release on = (rw fails refl, release-1 not-sound)
   one-first (report lent) on = (rw fails refl, report-1 not-sound)
+  one-first (standing q) on = (rw fails refl, standing-1 not-sound)
 
   module _ (c : Call) (on : OnTable c) (why : Refusal) where
     one : number (answered t c .answer) ≡ 1
@@ -306,6 +315,7 @@ given-exactly t (event Grant) why = exactly-on t (event Grant) tt why
 given-exactly t (event (Return q u early)) why = exactly-on t (event (Return q u early)) tt why
 given-exactly t release why = exactly-on t release tt why
 given-exactly t (report lent) why = exactly-on t (report lent) tt why
+given-exactly t (standing q) why = exactly-on t (standing q) tt why
 
 -- 1 answers exactly when the table isn't sound
 one-words : {t : Table} {c : Call} → Against t c Unsound → NotSound t
@@ -317,6 +327,7 @@ one-words (grant-1 h) = h
 one-words (return-1 h) = h
 one-words (release-1 h) = h
 one-words (report-1 h) = h
+one-words (standing-1 h) = h
 
 pub one-exactly : (t : Table) (c : Call) → OnTable c → (number (answered t c .answer) ≡ 1) ↔ NotSound t
 one-exactly t c on = (λ n. one-words (given-exactly t c Unsound .0 n .0), λ no. one t no c on Unsound)

@@ -34,6 +34,8 @@ pub mod Meaning
 pub mod Departed
 -- what stands whatever the event
 pub mod Standing
+-- where a row stands, by its lag and by V
+pub mod Panel
 -- the public calls in one: refused with the table as given, or done
 pub mod Calling
 -- a call answers a number exactly when that refusal is the lowest that speaks against it

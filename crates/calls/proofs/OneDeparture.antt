@@ -4,11 +4,11 @@ use mathlib.Core.Path.{_≡_, refl}
 use Prim.Native.Nat.{ℕ, _+_, _*_, _<_}
 use native.Mathlib.Omega.{arith}
 use lib.ListN.{length}
-use Rattle.laws.proofs.Tests.{clash}
 use Rattle.rows.specs.declared.Row.{Row}
 use Rattle.rows.specs.declared.State.{State}
-use Rattle.rows.specs.declared.State.the-variants.{Free, Going, Asking}
-use Rattle.rows.specs.Row.{isFree, isGoing, isAsking, weightIn, momentIn}
+use Rattle.rows.specs.declared.State.the-variants.{Going}
+use Rattle.rows.specs.Row.{isFree, isAsking, weightIn, momentIn}
+use Rattle.rows.proofs.Shares.{asking-not-free}
 use Rattle.head.specs.Head.{summed}
 use Rattle.share.specs.declared.Table.{Table}
 use Rattle.share.specs.Events.{leaving}
@@ -42,17 +42,6 @@ module _ (t : Table) (i : ℕ) (sums : TrueSums t) (inside : i < length (t .rows
       let a : freed t i .head .sum + r .weight * r .position ≡ t .head .sum = omega (arith, freed-sum t i, moment-within t i sums inside, moment-here r present) in
       let b : freed t i .head .total + r .weight ≡ t .head .total = omega (arith, freed-total t i, weight-within t i sums inside, weight-here r present) in
       once (t .head .sum) (t .head .total) (freed t i .head .sum) (freed t i .head .total) (r .weight) (r .position) a b
-
--- a going row is not free, nor is an asking one
-pub going-not-free : (s : State) → isGoing s ≡ true → isFree s ≡ false
-going-not-free Free e = absurd (clash e refl)
-going-not-free Going e = refl
-going-not-free (Asking q) e = refl
-
-pub asking-not-free : (s : State) → isAsking s ≡ true → isFree s ≡ false
-asking-not-free Free e = absurd (clash e refl)
-asking-not-free Going e = absurd (clash e refl)
-asking-not-free (Asking q) e = refl
 
 abbrev gone : Row → Row
 gone r = record { weight = r .weight; position = r .position; state = Going }

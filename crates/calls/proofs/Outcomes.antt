@@ -9,7 +9,7 @@ use Rattle.rows.specs.declared.Terms.{Terms}
 use Rattle.head.specs.declared.Event.{Event}
 use Rattle.share.specs.declared.Reply.{Reply}
 use Rattle.share.specs.declared.Table.{Table}
-use Rattle.share.specs.Calls.{freshReply, joinReply, leaveReply, releaseReply, reweightReply, lengthReply, grantReply, returnReply, lagReply, lagList, step}
+use Rattle.share.specs.Calls.{freshReply, joinReply, leaveReply, releaseReply, reweightReply, lengthReply, grantReply, returnReply, lagReply, lagList, standingReply, step}
 
 one-outcome : {A : Type 0} {x y z : A} → x ≡ z → y ≡ z → x ≡ y
 one-outcome p q = p ∙ sym q
@@ -39,6 +39,9 @@ module _ (r s : Reply) where
 
     pub return-once : (queue used : ℕ) (early : Bool) → r ≡ returnReply t queue used early → s ≡ returnReply t queue used early → r ≡ s
     return-once queue used early = one-outcome
+
+    pub standing-once : (queue : ℕ) → r ≡ standingReply t queue → s ≡ standingReply t queue → r ≡ s
+    standing-once queue = one-outcome
 
     pub apply-once : (e : Event) → r ≡ step t e → s ≡ step t e → r ≡ s
     apply-once e = one-outcome

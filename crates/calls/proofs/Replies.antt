@@ -36,4 +36,4 @@ fresh-accepted terms e = call-accepted _ _ _ (rw e refl)
 pub refused-handed-back : (checks : List Check) (t : Table) (event : Reply) (why : Refusal) → firstOf checks ≡ some why → HandedBack t (call checks t event) why
 refused-handed-back checks t event why e =
     rw (call-refused checks t event why e)
-    (record { answer-is = refl; queue-none = refl; slice-none = refl; denominator-none = refl; table-same = refl })
+    (record { answer-is = refl; queue-none = refl; slice-none = refl; denominator-none = refl; standing-none = refl; table-same = refl })

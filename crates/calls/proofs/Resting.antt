@@ -1,6 +1,6 @@
 -- Where a table comes to rest. A row whose departure leaves the table empty has it to itself, so V is its position; and when a release frees all that are
 -- left, each was at most V when it went, and V only rose: the last one freed is the furthest of all.
-use mathlib.Core.Bool.{true, false, cond}
+use mathlib.Core.Bool.{true, false}
 use mathlib.Core.Logic.{⊎-elim}
 use mathlib.Core.Path.{_≡_, refl, ap, sym, subst⁻¹, _∙_}
 use Prim.Native.Nat.{ℕ, _+_, _*_, _≤_, _<_}
@@ -15,11 +15,8 @@ use Rattle.laws.proofs.Difference.{same-none}
 use Rattle.laws.proofs.Sums.{sum-scaled}
 use Rattle.laws.proofs.Tests.{clash, le-or-lt, either}
 use Rattle.rows.specs.declared.Row.{Row}
-use Rattle.rows.specs.declared.State.{State}
-use Rattle.rows.specs.declared.State.the-variants.{Free, Going, Asking}
-use Rattle.rows.specs.Orderly.{OrderlyAs}
 use Rattle.rows.specs.Row.{blank, isFree, weightIn, momentIn}
-use Rattle.rows.proofs.Shares.{moment-is, free-weighs-nothing}
+use Rattle.rows.proofs.Shares.{moment-is, free-weighs-nothing, going-not-free, orderly-weighs}
 use Rattle.head.specs.Lag.{lagOf}
 use Rattle.share.specs.declared.Table.{Table}
 use Rattle.share.specs.Release.{freed, Frees, done, one}
@@ -30,7 +27,7 @@ use Rattle.share.proofs.Release.{freed-total, freed-sum, freed-other, freed-sam
 use Rattle.share.proofs.Sound.{row-past}
 use Rattle.share.proofs.Totals.{sums-true}
 use Rattle.calls.specs.Meaning.{ComesToRest, LastFreed}
-use Rattle.calls.proofs.OneDeparture.{going-not-free}
+use Rattle.calls.proofs.OneDeparture.{weight-here}
 
 -- a row that is not free is one of the table's
 there : (t : Table) (i : ℕ) → isFree (row t i .state) ≡ false → i < length (t .rows)
@@ -180,10 +177,8 @@ release-ends {t} (one i r rest) empty heavy =
 
 -- every row of an orderly table that is there weighs something
 pub orderly-heavy : {t : Table} → Orderly t → Heavy t
-unfolding weightIn
-orderly-heavy {t} o = record { sums = sums-true o; weighs = λ i. weighs-as (row t i .state) (row t i .weight) (row t i .position) (o .each i) }
-  where
-    weighs-as : (s : State) (w p : ℕ) → OrderlyAs s w p → isFree s ≡ false → 1 ≤ cond (isFree s) 0 w
-    weighs-as Free w p h here = absurd (clash refl here)
-    weighs-as Going w p h here = h .weight-low
-    weighs-as (Asking q) w p h here = h .0 .weight-low
+orderly-heavy {t} o =
+    record {
+      sums = sums-true o;
+      weighs = λ i here. omega (arith, weight-here (row t i) here, orderly-weighs (row t i .state) (row t i .weight) (row t i .position) (o .each i) here);
+    }

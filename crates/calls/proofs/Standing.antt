@@ -11,15 +11,15 @@ use lib.ListN.{length, getD}
 use borrow.Author.Tests.{ltb-false, le-ltb, ne-eqb}
 use Rattle.laws.specs.Difference.{_⊖_}
 use Rattle.laws.proofs.Sums.{sum-bound}
-use Rattle.laws.proofs.Tests.{clash, le-or-lt}
+use Rattle.laws.proofs.Tests.{le-or-lt}
 use Rattle.rows.specs.declared.Row.{Row}
 use Rattle.rows.specs.declared.State.{State}
 use Rattle.rows.specs.declared.State.the-variants.{Free, Going, Asking}
 use Rattle.rows.specs.declared.Terms.{Terms}
 use Rattle.rows.specs.Numbers.{lengthMeant, defaultOf}
-use Rattle.rows.specs.Orderly.{OrderlyAs, OrderlyRow}
+use Rattle.rows.specs.Orderly.{OrderlyRow}
 use Rattle.rows.specs.Row.{blank, isFree, weightIn, isGoing}
-use Rattle.rows.proofs.Shares.{orderly-weight}
+use Rattle.rows.proofs.Shares.{orderly-weight, asking-not-free, going-not-free, orderly-weighs}
 use Rattle.head.specs.declared.Event.{Event}
 use Rattle.head.specs.declared.Event.the-variants.{Fresh, Join, Leave, Reweight, Length, Grant, Return}
 use Rattle.head.specs.declared.Head.{Head}
@@ -40,7 +40,6 @@ use Rattle.calls.proofs.Departed.{leave-means}
 use Rattle.calls.proofs.Exactly.{released-exactly}
 use Rattle.calls.proofs.Meaning.{accepted-none}
 use Rattle.calls.proofs.Releasing.{put-terms}
-use Rattle.calls.proofs.OneDeparture.{asking-not-free, going-not-free}
 use Rattle.calls.proofs.Replies.{call-cases}
 use Rattle.head.specs.Answers.{number}
 use Rattle.head.specs.Head as AtMost
@@ -90,25 +89,19 @@ below-not a b it = by (ltb a b) refl (it .1)
     by true e is = absurd (pos-ne-negsuc (it .0) (b - suc a) (sym is))
     by false e is = ltb-false a b e
 
--- a row that is not free weighs at least 1
-weighs : (s : State) (w p : ℕ) → OrderlyAs s w p → isFree s ≡ false → 1 ≤ w
-weighs Free w p o there = absurd (clash refl there)
-weighs Going w p o there = o .weight-low
-weighs (Asking q) w p o there = o .0 .weight-low
-
 scaled : (w p W A : ℕ) → 1 ≤ w → (p * W ≤ A) ↔ (w * (W * p) ≤ w * A)
 scaled w p W A heavy = (
   λ l. omega (arith, mul-le-mul-left w l),
   λ l. ⊎-elim (λ at-most. at-most) (λ more. absurd (omega (arith, mul-le-mul-left w more, l, heavy))) (le-or-lt (p * W) A),
 )
 
-lag-here : (h : Head) (r : Row) → isFree (r .state) ≡ false → lagOf h r ≡ r .weight * h .sum ⊖ r .weight * (h .total * r .position)
+pub lag-here : (h : Head) (r : Row) → isFree (r .state) ≡ false → lagOf h r ≡ r .weight * h .sum ⊖ r .weight * (h .total * r .position)
 unfolding lagOf
 lag-here h r there = rw there refl
 
 pub lag-sign-of : (h : Head) (r : Row) → OrderlyRow r → isFree (r .state) ≡ false → AtMost.AtMostV h (r .position) ↔ NotBelow0 (lagOf h r)
 lag-sign-of h r o there =
-    let heavy = weighs (r .state) (r .weight) (r .position) o there in
+    let heavy = orderly-weighs (r .state) (r .weight) (r .position) o there in
     let both = scaled (r .weight) (r .position) (h .total) (h .sum) heavy in
     let is = lag-here h r there in (
       λ level. subst⁻¹ NotBelow0 is (not-below (r .weight * h .sum) (r .weight * (h .total * r .position)) (both .0 level)),
@@ -152,7 +145,7 @@ empty-means t o = (
         empty,
         weight-within t i (sums-true o) inside,
         orderly-weight r (o .each i),
-        weighs (r .state) (r .weight) (r .position) (o .each i) there,
+        orderly-weighs (r .state) (r .weight) (r .position) (o .each i) there,
       ))),
   λ free. omega (
     arith,

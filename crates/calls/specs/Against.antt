@@ -11,7 +11,7 @@ use Rattle.rows.specs.Numbers.{queues, maxWeight, maxLength, maxLimit, ceiling}
 use Rattle.rows.specs.Row.{isFree, isAsking}
 use Rattle.head.specs.declared.Event.the-variants.{Fresh, Join, Leave, Reweight, Length, Grant, Return}
 use Rattle.head.specs.declared.Refusal.{Refusal}
-use Rattle.head.specs.declared.Refusal.the-variants.{Unsound, QueueOutside, WeightOutside, LengthOutside, SliceOut, NotHolder, RowTaken, NotAsking, LagBelow, TicksOutside, TableEmpty, CeilingPassed, ListShort, LimitOutside}
+use Rattle.head.specs.declared.Refusal.the-variants.{Unsound, QueueOutside, WeightOutside, LengthOutside, SliceOut, NotHolder, RowTaken, NotAsking, LagBelow, TicksOutside, TableEmpty, CeilingPassed, ListShort, LimitOutside, RowFree}
 use Rattle.head.specs.Answers.{refusalNumber}
 use Rattle.head.specs.Lag.{lagOf}
 use Rattle.share.specs.declared.Table.{Table}
@@ -19,7 +19,7 @@ use Rattle.share.specs.Table.{row}
 use Rattle.share.specs.Sound.{Sound}
 use Rattle.share.specs.Choice.{deadline, Chosen}
 use Rattle.calls.specs.Meaning.{NotBelow0}
-use Rattle.calls.specs.Public.{Call, event, release, report}
+use Rattle.calls.specs.Public.{Call, event, release, report, standing}
 
 -- 1 "the table isn't sound"
 abbrev pub NotSound : Table → Type 0
@@ -79,6 +79,10 @@ TooShort lent = length lent < queues
 abbrev pub LimitWrong : Terms → Type 0
 LimitWrong terms = (terms .limit < 1) ⊎ (maxLimit < terms .limit)
 
+-- 31 "for a free row" (T-05)
+abbrev pub NobodyThere : Table → ℕ → Type 0
+NobodyThere t queue = isFree (row t queue .state) ≡ true
+
 -- for each call the numbers that it can be refused by
 pub data Against (t : Table) : Call → Refusal → Type 0 where
   fresh-14 : {terms : Terms} → LimitWrong terms → Against t (event (Fresh terms)) LimitOutside
@@ -115,6 +119,9 @@ pub data Against (t : Table) : Call → Refusal → Type 0 where
   release-1 : NotSound t → Against t release Unsound
   report-1 : {lent : List ℤ} → NotSound t → Against t (report lent) Unsound
   report-13 : {lent : List ℤ} → TooShort lent → Against t (report lent) ListShort
+  standing-1 : {q : ℕ} → NotSound t → Against t (standing q) Unsound
+  standing-2 : {q : ℕ} → QueueAbove q → Against t (standing q) QueueOutside
+  standing-31 : {q : ℕ} → NobodyThere t q → Against t (standing q) RowFree
 
 -- "Where several apply, the lowest number answers."
 abbrev pub NoneLower : Table → Call → Refusal → Type 0
@@ -131,3 +138,4 @@ OnTable (event Grant) = Unit {0}
 OnTable (event (Return q u early)) = Unit {0}
 OnTable release = Unit {0}
 OnTable (report lent) = Unit {0}
+OnTable (standing q) = Unit {0}

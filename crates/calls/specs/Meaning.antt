@@ -3,15 +3,18 @@
 use mathlib.Core.Path.{_≡_}
 use mathlib.Core.Bool.{Bool, true, false}
 use mathlib.Core.Logic.{_⊎_, _↔_, _≢_}
-use Prim.Native.Nat.{ℕ, _+_, _*_, _≤_, _<_}
+use Prim.Native.Nat.{ℕ, suc, _+_, _-_, _*_, _≤_, _<_}
 use lib.IntN.{ℤ, pos}
 use lib.ListN.{length}
 use Rattle.rows.specs.declared.Request.{Request}
 use Rattle.rows.specs.declared.Row.{Row}
+use Rattle.rows.specs.declared.Standing.{Standing}
+use Rattle.rows.specs.declared.Standing.the-variants.{Behind, Level, Ahead}
 use Rattle.rows.specs.declared.State.the-variants.{Going, Asking}
 use Rattle.rows.specs.declared.Terms.{Terms}
 use Rattle.rows.specs.Numbers.{queues, stepOf}
 use Rattle.rows.specs.Row.{blank, isFree, isGoing, isAsking}
+use Rattle.rows.specs.Virtual.{Reached}
 use Rattle.head.specs.declared.Event.the-variants.{Join, Leave}
 use Rattle.head.specs.Answers.{number}
 use Rattle.head.specs.Lag.{lagOf}
@@ -184,6 +187,19 @@ pub record ReweightMeans (t u : Table) (queue weight length : ℕ) : Type 0 wher
   pub joins : number (step (step t (Leave queue) .table) (Join queue weight length) .answer) ≡ 0
   -- and nothing besides
   pub table-is : u ≡ step (step t (Leave queue) .table) (Join queue weight length) .table
+
+-- T-05, "behind V, level with it, or ahead, and then the least whole number of position units V has yet to rise": by the lag that the report has for the row,
+-- and by V = A / W, which reaches the row if it rises by so much, and if it rises by one less does not
+pub record AheadBy (t : Table) (queue units : ℕ) : Type 0 where
+  pub lag-below : (n : ℕ) → lagOf (t .head) (row t queue) ≢ pos n
+  pub at-least-1 : 1 ≤ units
+  pub reaches-it : Reached (row t queue .position) (t .head .total) (t .head .sum + units * t .head .total)
+  pub no-less-does : Reached (row t queue .position) (t .head .total) (t .head .sum + (units - 1) * t .head .total) → ⊥
+
+abbrev pub StandsAs : Table → ℕ → Standing → Type 0
+StandsAs t queue Behind = (n : ℕ) × (lagOf (t .head) (row t queue) ≡ pos (suc n))
+StandsAs t queue Level = lagOf (t .head) (row t queue) ≡ pos 0
+StandsAs t queue (Ahead units) = AheadBy t queue units
 
 -- "Lag ...: positive when the engine owes it time": a lag of 0 or more, by its numerator
 abbrev pub NotBelow0 : ℤ → Type 0

@@ -10,7 +10,7 @@ use Rattle.rows.specs.declared.State.{State}
 use Rattle.rows.specs.declared.State.the-variants.{Free, Going, Asking}
 use Rattle.rows.specs.Row.{isFree, isGoing}
 use Rattle.head.specs.declared.Answer.{Answer}
-use Rattle.head.specs.declared.Answer.the-variants.{Accepted, Granted, Reported, Refused}
+use Rattle.head.specs.declared.Answer.the-variants.{Accepted, Granted, Reported, Stands, Refused}
 use Rattle.head.specs.declared.Event.{Event}
 use Rattle.head.specs.declared.Event.the-variants.{Fresh}
 use Rattle.head.specs.Answers.{number}
@@ -75,6 +75,7 @@ abbrev pub isGrantOf : Answer → ℕ → ℕ → Bool
 isGrantOf Accepted queue slice = false
 isGrantOf (Granted q s) queue slice = eqb q queue && eqb s slice
 isGrantOf (Reported d) queue slice = false
+isGrantOf (Stands s) queue slice = false
 isGrantOf (Refused why) queue slice = false
 
 -- every number that stands in a table, to compare two tables by

@@ -3,8 +3,9 @@
 use mathlib.Core.Bool.{Bool, false, cond}
 use Prim.Native.Nat.{ℕ, _+_, _-_, _/_}
 use lib.Dec.{eqb}
+use Rattle.rows.specs.declared.Standing.{Standing}
 use Rattle.rows.specs.declared.Terms.{Terms}
-use Rattle.rows.specs.Virtual.{Reached, reached}
+use Rattle.rows.specs.Virtual.{Reached, standingAt, reached}
 use Rattle.head.specs.declared.Event.{Event}
 use Rattle.head.specs.declared.Event.the-variants.{Fresh, Join, Leave, Reweight, Length, Grant, Return}
 use Rattle.head.specs.declared.Head.{Head}
@@ -19,6 +20,9 @@ isEmpty h = eqb (h .total) 0
 -- "Virtual time V is the fraction A / W and exists when W is above 0."
 abbrev pub AtMostV : Head → ℕ → Type 0
 AtMostV h position = Reached position (h .total) (h .sum)
+
+abbrev pub standingBy : Head → ℕ → Standing
+standingBy h position = standingAt position (h .total) (h .sum)
 
 abbrev pub reachedBy : Head → ℕ → Bool
 reachedBy h position = reached position (h .total) (h .sum)

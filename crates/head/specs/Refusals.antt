@@ -16,7 +16,7 @@ use Rattle.head.specs.declared.Event.{Event}
 use Rattle.head.specs.declared.Event.the-variants.{Fresh, Join, Leave, Reweight, Length, Grant, Return}
 use Rattle.head.specs.declared.Head.{Head}
 use Rattle.head.specs.declared.Refusal.{Refusal}
-use Rattle.head.specs.declared.Refusal.the-variants.{Unsound, QueueOutside, WeightOutside, LengthOutside, SliceOut, NotHolder, RowTaken, NotAsking, LagBelow, TicksOutside, TableEmpty, CeilingPassed, LimitOutside}
+use Rattle.head.specs.declared.Refusal.the-variants.{Unsound, QueueOutside, WeightOutside, LengthOutside, SliceOut, NotHolder, RowTaken, NotAsking, LagBelow, TicksOutside, TableEmpty, CeilingPassed, LimitOutside, RowFree}
 use Rattle.head.specs.declared.judging.Verdict.{Verdict}
 use Rattle.head.specs.declared.judging.Verdict.the-variants.{Fine, Refused}
 use Rattle.head.specs.Head.{isEmpty, reachedBy}
@@ -95,6 +95,10 @@ returnChecks sound h queue used =
     ∷ (NotHolder when notHolder h queue)
     ∷ (TicksOutside when ticksOutside (h .ticks) used)
     ∷ []
+
+-- of the call that tells where a row stands
+abbrev pub standingChecks : Bool → Row → ℕ → List Check
+standingChecks sound r queue = (Unsound when not sound) ∷ (QueueOutside when queueOutside queue) ∷ (RowFree when isFree (r .state)) ∷ []
 
 unfoldable pub checksFor : Bool → Head → Row → Event → List Check
 checksFor sound h r (Fresh terms) = freshChecks terms

@@ -42,6 +42,7 @@ impl Refusal {
             Refusal::CeilingPassed => 12,
             Refusal::ListShort => 13,
             Refusal::LimitOutside => 14,
+            Refusal::RowFree => 31,
         }
     }
 }
@@ -191,6 +192,16 @@ fn fresh_verdict(terms: Terms) -> Verdict
     ensures { λ r. ⌜ r ≡ checks.verdictOf (checks.firstOf (checks.freshChecks terms)) ⌝ }
 {
     Verdict::Fine.or(Refusal::LimitOutside, limit_outside(terms))
+}
+
+// What speaks against telling where a row stands.
+pub fn standing_verdict(sound: bool, row: Row, queue: u64) -> Verdict
+    ensures { λ r. ⌜ r ≡ checks.verdictOf (checks.firstOf (checks.standingChecks sound row queue)) ⌝ }
+{
+    Verdict::Fine
+        .or(Refusal::Unsound, !sound)
+        .or(Refusal::QueueOutside, queue_outside(queue))
+        .or(Refusal::RowFree, is_free(row))
 }
 
 // The deadline of the row that a grant would go to is above the ceiling, if the table is sound.

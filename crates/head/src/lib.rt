@@ -10,7 +10,9 @@ mod resting;
 mod surveying;
 
 pub use judging::Verdict;
+pub use judging::standing_verdict;
 pub use resting::rest_after;
+use rows::Standing;
 use rows::Terms;
 pub use surveying::Survey;
 
@@ -42,12 +44,14 @@ pub enum Refusal {
     CeilingPassed,
     ListShort,
     LimitOutside,
+    RowFree,
 }
 
 pub enum Answer {
     Accepted,
     Granted { queue: u64, slice: u64 },
     Reported { denominator: u64 },
+    Stands(Standing),
     Refused(Refusal),
 }
 
@@ -110,6 +114,7 @@ impl Answer {
                 slice,
             },
             Answer::Reported { denominator: _ } => Shown::plain(0),
+            Answer::Stands(_) => Shown::plain(0),
             Answer::Refused(why) => Shown::plain(why.number()),
         }
     }

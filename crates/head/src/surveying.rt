@@ -12,6 +12,7 @@ use crate::judging::limit_outside;
 use rows::Request;
 use rows::Row;
 use rows::Seen;
+use rows::Standing;
 use rows::State;
 use rows::Terms;
 use rows::lesser;
@@ -55,6 +56,14 @@ fn slice_least(terms: Terms, q: Request) -> u64
 }
 
 impl Head {
+    // Where a position stands to V.
+    pub fn stands(self, position: u64) -> Standing
+        requires { ⌜ Crossing position (self .total) ⌝ }
+        ensures { λ r. ⌜ r ≡ heads.standingBy self position ⌝ }
+    {
+        rows::stands(position, self.total, self.sum)
+    }
+
     // V has reached this position.
     pub fn reached(self, position: u64) -> bool
         requires { ⌜ Crossing position (self .total) ⌝ }

@@ -10,7 +10,7 @@ use lib.ListN.{length, take, drop, length-drop}
 use lib.Seq.{drop-drop}
 use Rattle.laws.proofs.Tests.{clash}
 use Rattle.head.specs.declared.Answer.{Answer}
-use Rattle.head.specs.declared.Answer.the-variants.{Accepted, Granted, Reported, Refused}
+use Rattle.head.specs.declared.Answer.the-variants.{Accepted, Granted, Reported, Stands, Refused}
 use Rattle.head.specs.declared.Event.{Event}
 use Rattle.head.specs.declared.Line.{Line}
 use Rattle.head.specs.declared.Line.the-variants.{Known, Broken}
@@ -34,6 +34,7 @@ unfolding shownLine
 shown-reply line Accepted sum total = refl
 shown-reply line (Granted queue slice) sum total = refl
 shown-reply line (Reported denominator) sum total = refl
+shown-reply line (Stands standing) sum total = refl
 shown-reply line (Refused why) sum total = refl
 
 known-line : (line : ℕ) (t : Table) (event : Event) → shownLine line (shownAs (step t event .answer)) (step t event .table .head .sum) (step t event .table .head .total) ≡ printed line t (Known event)

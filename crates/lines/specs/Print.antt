@@ -4,7 +4,7 @@ use mathlib.Core.List.{List, [], _∷_, _++_}
 use Prim.Native.Nat.{ℕ, suc}
 use Rattle.rows.specs.Numbers.{leastTerms}
 use Rattle.head.specs.declared.Answer.{Answer}
-use Rattle.head.specs.declared.Answer.the-variants.{Accepted, Granted, Reported, Refused}
+use Rattle.head.specs.declared.Answer.the-variants.{Accepted, Granted, Reported, Stands, Refused}
 use Rattle.head.specs.declared.Line.{Line}
 use Rattle.head.specs.declared.Line.the-variants.{Known, Broken}
 use Rattle.head.specs.declared.Shown.{Shown}
@@ -31,12 +31,14 @@ abbrev pub whoIn : Answer → List ℕ
 whoIn Accepted = dash
 whoIn (Granted queue slice) = digits queue
 whoIn (Reported denominator) = dash
+whoIn (Stands standing) = dash
 whoIn (Refused why) = dash
 
 abbrev pub sliceIn : Answer → List ℕ
 sliceIn Accepted = dash
 sliceIn (Granted queue slice) = digits slice
 sliceIn (Reported denominator) = dash
+sliceIn (Stands standing) = dash
 sliceIn (Refused why) = dash
 
 -- "line number, answer (0 for accepted), granted queue, slice ..., A and W"

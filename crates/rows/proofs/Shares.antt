@@ -1,14 +1,15 @@
 -- An orderly row's part in W and A is its weight and its weight x position, a free one's being zero; and both are small.
 use mathlib.Core.Path.{_≡_, refl, sym}
-use mathlib.Core.Bool.{true, cond}
+use mathlib.Core.Bool.{true, false, cond}
 use Prim.Native.Nat.{ℕ, _*_, _≤_}
 use native.Mathlib.Nat.{mul-le-mul}
 use native.Mathlib.Omega.{arith}
+use Rattle.laws.proofs.Tests.{clash}
 use Rattle.rows.specs.declared.Row.{Row}
 use Rattle.rows.specs.declared.State.{State}
 use Rattle.rows.specs.declared.State.the-variants.{Free, Going, Asking}
 use Rattle.rows.specs.Numbers.{maxWeight, ceiling}
-use Rattle.rows.specs.Row.{isFree, weightIn, momentIn}
+use Rattle.rows.specs.Row.{isFree, isGoing, isAsking, weightIn, momentIn}
 use Rattle.rows.specs.Orderly.{OrderlyAs, OrderlyRow}
 
 pub moment-fits : {w p : ℕ} → w ≤ maxWeight → p ≤ ceiling → w * p ≤ maxWeight * ceiling
@@ -40,6 +41,23 @@ moment-as (Asking q) w p = refl
 pub moment-is : (r : Row) → momentIn r ≡ weightIn r * r .position
 unfolding momentIn weightIn
 moment-is r = moment-as (r .state) (r .weight) (r .position)
+
+-- a going row is not free, nor is an asking one
+pub going-not-free : (s : State) → isGoing s ≡ true → isFree s ≡ false
+going-not-free Free e = absurd (clash e refl)
+going-not-free Going e = refl
+going-not-free (Asking q) e = refl
+
+pub asking-not-free : (s : State) → isAsking s ≡ true → isFree s ≡ false
+asking-not-free Free e = absurd (clash e refl)
+asking-not-free Going e = absurd (clash e refl)
+asking-not-free (Asking q) e = refl
+
+-- an orderly row that is not free weighs something, and a free one nothing
+pub orderly-weighs : (s : State) (w p : ℕ) → OrderlyAs s w p → isFree s ≡ false → 1 ≤ w
+orderly-weighs Free w p o here = absurd (clash refl here)
+orderly-weighs Going w p o here = o .weight-low
+orderly-weighs (Asking q) w p o here = o .0 .weight-low
 
 free-weight : (s : State) (n : ℕ) → isFree s ≡ true → cond (isFree s) 0 n ≡ 0
 free-weight s n e = rw e refl

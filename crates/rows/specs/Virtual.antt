@@ -1,8 +1,10 @@
--- Virtual time by cross products: whether V = A / W has reached a position.
-use mathlib.Core.Bool.{Bool, false}
-use Prim.Native.Nat.{ℕ, _*_, _≤_}
-use lib.Dec.{leb}
+-- Virtual time by cross products: where a position stands to V = A / W.
+use mathlib.Core.Bool.{Bool, true, false, cond}
+use Prim.Native.Nat.{ℕ, _+_, _-_, _*_, _/_, _≤_}
+use lib.Dec.{ltb, eqb}
 use Rattle.rows.specs.declared.Row.{Row}
+use Rattle.rows.specs.declared.Standing.{Standing}
+use Rattle.rows.specs.declared.Standing.the-variants.{Behind, Level, Ahead}
 use Rattle.rows.specs.declared.State.{State}
 use Rattle.rows.specs.declared.State.the-variants.{Free, Going, Asking}
 
@@ -10,9 +12,21 @@ use Rattle.rows.specs.declared.State.the-variants.{Free, Going, Asking}
 abbrev pub Reached : ℕ → ℕ → ℕ → Type 0
 Reached position total sum = position * total ≤ sum
 
--- the same as a test; of a row's position it says that V has reached it, which is a lag of 0 or more
+-- T-05, "which of three: behind V, level with it, or ahead, and then the least whole number of position units V has yet to rise": that is what is missing from
+-- A, in parts of W, rounded up
+unfoldable pub standingAt : ℕ → ℕ → ℕ → Standing
+standingAt position total sum =
+    cond (ltb (position * total) sum) Behind
+    (cond (eqb (position * total) sum) Level (Ahead ((position * total - sum + (total - 1)) / total)))
+
+-- "The test whether a position has been reached": it is not ahead; of a row's position, a lag of 0 or more
+abbrev pub notAhead : Standing → Bool
+notAhead Behind = true
+notAhead Level = true
+notAhead (Ahead units) = false
+
 unfoldable pub reached : ℕ → ℕ → ℕ → Bool
-reached position total sum = leb (position * total) sum
+reached position total sum = notAhead (standingAt position total sum)
 
 -- "going rows whose lag is 0 or more": to be released
 abbrev pub readyAs : ℕ → ℕ → State → ℕ → Bool

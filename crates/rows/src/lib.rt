@@ -24,6 +24,7 @@ pub use ranges::moment;
 pub use ranges::outside;
 pub use ranges::reached;
 pub use ranges::request_orderly;
+pub use ranges::stands;
 pub use serving::charged;
 pub use serving::charged_to;
 pub use serving::default_of;
@@ -74,6 +75,13 @@ pub struct Row {
     pub weight: u64,
     pub position: u64,
     pub state: State,
+}
+
+// Where a position stands to V: behind it, level with it, or ahead, and then by how many position units V has to rise to reach it.
+pub enum Standing {
+    Behind,
+    Level,
+    Ahead { units: u64 },
 }
 
 pub const BLANK: Row = Row {

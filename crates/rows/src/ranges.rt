@@ -8,6 +8,7 @@ ghost use Rattle.rows.specs.Fits as fits;
 ghost use Rattle.rows.specs.Virtual as virtual;
 use crate::Request;
 use crate::Row;
+use crate::Standing;
 use crate::State;
 
 // Outside a range whose ends belong to it.
@@ -26,12 +27,33 @@ pub fn lesser(a: u64, b: u64) -> u64
     b
 }
 
-// V = A / W has reached this position: position <= A / W, by the cross product. Every test against V is this one.
+// Where a position stands to V = A / W, by the cross product. Every test against V is this one. The units are those that V has yet to rise: where they
+// are not looked at, the built program does not divide.
+pub fn stands(position: u64, total: u64, sum: u64) -> Standing
+    requires { ⌜ fits.Crossing position total ⌝ }
+    ensures { λ r. ⌜ r ≡ virtual.standingAt position total sum ⌝ }
+{
+    let across = position * total;
+    if across < sum {
+        return Standing::Behind;
+    }
+    if across == sum {
+        return Standing::Level;
+    }
+    let units = (across - sum + (total - 1)) / total;
+    Standing::Ahead { units }
+}
+
+// V has reached this position: it is not ahead.
 pub fn reached(position: u64, total: u64, sum: u64) -> bool
     requires { ⌜ fits.Crossing position total ⌝ }
     ensures { λ r. ⌜ r ≡ virtual.reached position total sum ⌝ }
 {
-    position * total <= sum
+    match stands(position, total, sum) {
+        Standing::Behind => true,
+        Standing::Level => true,
+        Standing::Ahead { .. } => false,
+    }
 }
 
 pub fn in_range(weight: u64, position: u64) -> bool

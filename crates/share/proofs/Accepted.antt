@@ -11,6 +11,7 @@ use lib.ListN.{length}
 use borrow.Author.Tests.{leb-false, ltb-false, eqb-true, eqb-false, not-false}
 use Rattle.laws.proofs.Tests.{and-left, and-right}
 use Rattle.rows.specs.Numbers.{queues, maxWeight, maxLength}
+use Rattle.rows.specs.Row.{isFree}
 use Rattle.rows.proofs.Orderly.{within-low, within-high}
 use Rattle.rows.proofs.Virtual.{reached-yes}
 use Rattle.head.specs.declared.Event.the-variants.{Join, Leave, Reweight, Length, Grant, Return}
@@ -19,7 +20,7 @@ use Rattle.head.specs.Head.{isEmpty}
 use Rattle.head.specs.Refusals.{Check, _when_, firstOf, queueOutside, lengthOutside, notHolder, rowTaken, notAsking, lagBelow, ticksOutside, mayUse, checksFor}
 use Rattle.share.specs.declared.Table.{Table}
 use Rattle.share.specs.Asks.{Joins, Leaves, Reweights, Lengthens, Grants, Returns}
-use Rattle.share.specs.Calls.{checksOf, releaseChecks, lagChecks}
+use Rattle.share.specs.Calls.{checksOf, releaseChecks, lagChecks, standingChecks}
 use Rattle.share.specs.Release.{done, released}
 use Rattle.share.specs.Sound.{Sound, sound}
 use Rattle.share.specs.Table.{row}
@@ -129,3 +130,10 @@ unfolding lagChecks
 lags-accepted t given e =
     let fails = fails-at (lagChecks t given) e in
     (is-sound t (fails 0), ltb-false (length given) queues (fails 1))
+
+-- where a row stands is told of one that is there, in a sound table
+pub standing-accepted : (t : Table) (queue : ℕ) → firstOf (standingChecks t queue) ≡ none → Sound t × (queue < queues) × (isFree (row t queue .state) ≡ false)
+unfolding standingChecks
+standing-accepted t queue e =
+    let fails = fails-at (standingChecks t queue) e in
+    (is-sound t (fails 0), is-inside queue (fails 1), fails 2)

@@ -1,22 +1,21 @@
 -- The sums of an orderly table are small: it weighs no more than 64 rows can, V is a mean of positions and so at most P, and one row's share for
 -- another's fits.
-use mathlib.Core.Path.{_≡_, refl}
-use mathlib.Core.Bool.{true, cond}
+use mathlib.Core.Bool.{cond}
 use mathlib.Core.Logic.{⊎-elim}
 use Prim.Native.Nat.{ℕ, _*_, _≤_, _<_}
 use native.Mathlib.Nat.{mul-le-mul-left}
 use native.Mathlib.Omega.{arith}
 use lib.ListN.{length, getD}
 use Rattle.laws.proofs.Sums.{sum-bound, sum-scaled}
-use Rattle.laws.proofs.Tests.{clash, le-or-lt}
+use Rattle.laws.proofs.Tests.{le-or-lt}
 use Rattle.rows.specs.declared.Row.{Row}
 use Rattle.rows.specs.declared.State.{State}
 use Rattle.rows.specs.declared.State.the-variants.{Free, Going, Asking}
 use Rattle.rows.specs.Numbers.{maxWeight, maxTotal, ceiling}
-use Rattle.rows.specs.Row.{blank, isFree, isGoing, weightIn, momentIn}
+use Rattle.rows.specs.Row.{blank, isFree, weightIn, momentIn}
 use Rattle.rows.specs.Orderly.{OrderlyAs}
 use Rattle.rows.specs.Fits.{Exchanging}
-use Rattle.rows.proofs.Shares.{orderly-weight, orderly-moment, weight-small, moment-small}
+use Rattle.rows.proofs.Shares.{going-not-free, orderly-weighs, orderly-weight, orderly-moment, weight-small, moment-small}
 use Rattle.head.specs.Head.{entry}
 use Rattle.head.specs.Judged.{Small}
 use Rattle.head.proofs.Entry.{entry-empty, entry-least}
@@ -31,12 +30,11 @@ pub sums-true : {t : Table} → Orderly t → TrueSums t
 sums-true h = record { total-true = h .total-true; sum-true = h .sum-true }
 
 pub weighed : {t : Table} → Orderly t → Weighed t
-weighed {t} h = record { sums = sums-true h; weighs = λ i. weighs-as (row t i .state) (row t i .weight) (row t i .position) (h .each i) }
-  where
-    weighs-as : (s : State) (w p : ℕ) → OrderlyAs s w p → isGoing s ≡ true → 1 ≤ w
-    weighs-as Free w p o g = absurd (clash g refl)
-    weighs-as Going w p o g = o .weight-low
-    weighs-as (Asking q) w p o g = absurd (clash g refl)
+weighed {t} h =
+    record {
+      sums = sums-true h;
+      weighs = λ i goes. orderly-weighs (row t i .state) (row t i .weight) (row t i .position) (h .each i) (going-not-free (row t i .state) goes);
+    }
 
 weight-most : (s : State) (w p : ℕ) → OrderlyAs s w p → cond (isFree s) 0 w ≤ maxWeight
 weight-most Free w p h = omega arith

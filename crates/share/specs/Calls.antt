@@ -8,13 +8,14 @@ use lib.IntN.{ℤ}
 use lib.ListN.{length}
 use Rattle.rows.specs.declared.Terms.{Terms}
 use Rattle.rows.specs.Numbers.{queues, leastTerms}
-use Rattle.head.specs.declared.Answer.the-variants.{Accepted, Granted, Reported, Refused}
+use Rattle.head.specs.declared.Answer.the-variants.{Accepted, Granted, Reported, Stands, Refused}
 use Rattle.head.specs.declared.Event.{Event}
 use Rattle.head.specs.declared.Event.the-variants.{Fresh, Join, Leave, Reweight, Length, Grant, Return}
 use Rattle.head.specs.declared.Refusal.{Refusal}
 use Rattle.head.specs.declared.Refusal.the-variants.{Unsound, ListShort}
-use Rattle.head.specs.Head.{concerns}
+use Rattle.head.specs.Head.{concerns, standingBy}
 use Rattle.head.specs.Lag.{lagUnit}
+use Rattle.head.specs.Refusals as Refusals
 use Rattle.head.specs.Refusals.{Check, _when_, firstOf, checksFor}
 use Rattle.share.specs.declared.Reply.{Reply}
 use Rattle.share.specs.declared.Table.{Table}
@@ -94,6 +95,16 @@ reportedReply t = record { answer = Reported (lagUnit (t .head)); table = t }
 
 unfoldable pub lagReply : Table → List ℤ → Reply
 lagReply t given = call (lagChecks t given) t (reportedReply t)
+
+-- T-05: where a row stands to V, which alters nothing
+unfoldable pub standingChecks : Table → ℕ → List Check
+standingChecks t queue = Refusals.standingChecks (sound t) (row t queue) queue
+
+abbrev pub standsReply : Table → ℕ → Reply
+standsReply t position = record { answer = Stands (standingBy (t .head) position); table = t }
+
+unfoldable pub standingReply : Table → ℕ → Reply
+standingReply t queue = call (standingChecks t queue) t (standsReply t (row t queue .position))
 
 unfoldable pub lagList : Table → List ℤ → List ℤ
 lagList t given = unless (firstOf (lagChecks t given)) (λ why. given) (lagsInto t given)

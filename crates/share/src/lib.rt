@@ -1,9 +1,10 @@
 // The share table of one render engine: queues share it by weight, a slice at a time.
 ghost use mathlib.Core.Path.{_≡_};
 ghost use Prim.Native.Nat.{_≤_};
+ghost use Rattle.rows.specs.Fits.{Crossing};
 ghost use Rattle.rows.specs.Numbers.{maxTotal};
 ghost use Rattle.share.specs.Events.{emptyTable};
-ghost use Rattle.share.specs.Calls.{accepted, freshReply, grantReply, joinReply, lagList, lagReply, leaveReply, lengthReply, refused, releaseReply, reportedReply, returnReply, reweightReply, step};
+ghost use Rattle.share.specs.Calls.{accepted, freshReply, grantReply, joinReply, lagList, lagReply, leaveReply, lengthReply, refused, releaseReply, reportedReply, returnReply, reweightReply, standingReply, standsReply, step};
 
 mod changes;
 mod lags;
@@ -17,7 +18,9 @@ pub use head::Line;
 pub use head::Refusal;
 pub use head::Shown;
 use head::Verdict;
+use head::standing_verdict;
 use rows::Row;
+pub use rows::Standing;
 pub use rows::Terms;
 use rows::UNSEEN;
 use rows::charged;
@@ -140,6 +143,17 @@ impl Table {
         self.apply(Event::Return { queue, used, early })
     }
 
+    // Where a row stands to V: behind it, level with it, or ahead, and then how far V has yet to rise. For the operators' panel; nothing is altered.
+    pub fn standing(self, queue: u64) -> Reply
+        ensures { λ r. ⌜ r ≡ standingReply self queue ⌝ }
+    {
+        let row = self.row_of(queue);
+        match standing_verdict(self.is_sound(), row, queue) {
+            Verdict::Refused(why) => self.refused(why),
+            Verdict::Fine => self.told(row.position),
+        }
+    }
+
     // Each row's lag, as the numerator over the common denominator W x 720,720. Entries 64 and up are kept.
     pub fn lags(self, list: &mut [i64]) -> Reply
         ensures told { λ r. ⌜ r ≡ lagReply self (now (list .entry)) ⌝ }
@@ -253,6 +267,17 @@ impl Table {
             answer: Answer::Reported {
                 denominator: self.head.total * rows::UNIT,
             },
+            table: self,
+        }
+    }
+
+    fn told(self, position: u64) -> Reply
+        requires { ⌜ Crossing position (self .head .total) ⌝ }
+        ensures { λ r. ⌜ r ≡ standsReply self position ⌝ }
+    {
+        let head = self.head;
+        Reply {
+            answer: Answer::Stands(head.stands(position)),
             table: self,
         }
     }
