@@ -1,4 +1,4 @@
-"""What bench/run and bench/instructions have in common.
+"""What bench/run, bench/instructions and bench/stack have in common.
 
 Where things lie, the two programs, the runs that are put to them, and how such
 a command ends.

@@ -79,6 +79,13 @@ S 3=0 J 0 2 3=0 J 1 3 3=0 J 2 5 3=0 G=0 U 2 3 0=0 L 2=0 G=0 U 1 3 0=0 L 1=0 L 0=
 J 9 7 2=0 G=0 U 9 2 0=0 J 8 1 1=0 L 8=0 L 9=0 G=11 J 63 16 1=0 W 63 1 1=0 L 63=0 J 0 1 1=0 G=0
 """
 
+# T-04: when 5 leaves, 3 is released, and that makes 4 ready, whose row the walk from
+# the top has passed by then: it takes a second pass.
+TWO_PASSES = """\
+S 7=0 J 5 1 6=0 J 3 4 1=0 J 4 13 4=0 W 5 16 21=0 G=0 U 3 1 0=0 G=0 U 4 4 0=0
+L 3=0 L 4=0 L 5=0 G=11 J 0 1 1=0 G=0
+"""
+
 
 def put_scripted(run, script):
     for entry in split_script(script):
@@ -118,6 +125,7 @@ def gate_lines():
     put_scripted(run, DEFAULTS)
     put_scripted(run, LONE)
     put_scripted(run, EMPTIED)
+    put_scripted(run, TWO_PASSES)
     put_broken(run)
     generate.extend_mixed(run, LINES - 1)
     run.put(b"G")

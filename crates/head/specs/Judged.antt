@@ -9,7 +9,9 @@ use Rattle.rows.specs.declared.Request.{Request}
 use Rattle.rows.specs.declared.Row.{Row}
 use Rattle.rows.specs.declared.looking.Seen.{Seen}
 use Rattle.rows.specs.Numbers.{maxWeight, maxTotal, maxLength, ceiling}
+use Rattle.rows.specs.Row.{momentIn}
 use Rattle.rows.specs.Orderly.{OrderlyRow, Allowed, allowed}
+use Rattle.rows.specs.Fits.{Exchanging}
 use Rattle.head.specs.declared.Head.{Head}
 use Rattle.head.specs.declared.surveying.Survey.{Survey}
 use Rattle.head.specs.Rest.{OrderlyRest, orderlyRest}
@@ -39,6 +41,13 @@ pub record Surveying (h : Head) (s : Seen) (r : Row) : Type 0 where
 pub record Judging (sound : Bool) (h : Head) (r : Row) : Type 0 where
   pub orderly : sound ≡ true → OrderlyRow r
   pub total-high : sound ≡ true → h .total ≤ maxTotal
+
+-- one row for another, whose shares fit
+pub record Replacing (h : Head) (old new : Row) : Type 0 where
+  pub old-orderly : OrderlyRow old
+  pub new-orderly : OrderlyRow new
+  pub weights : Exchanging (h .total) (old .weight) (new .weight)
+  pub moments : Exchanging (h .sum) (momentIn old) (momentIn new)
 
 -- a request whose numbers are in range, so that its products fit
 pub record Servable (q : Request) : Type 0 where

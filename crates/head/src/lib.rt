@@ -7,11 +7,11 @@ ghost use Rattle.head.specs.Head as heads;
 mod judging;
 mod lagging;
 mod resting;
+mod summing;
 mod surveying;
 
 pub use judging::Verdict;
 pub use judging::standing_verdict;
-pub use resting::rest_after;
 use rows::Standing;
 use rows::Terms;
 pub use surveying::Survey;

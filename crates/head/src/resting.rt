@@ -32,7 +32,7 @@ impl Head {
 }
 
 // The resting position once a row that stood here has left: here, if it was the last.
-pub fn rest_after(total: u64, position: u64) -> u64
+pub(crate) fn rest_after(total: u64, position: u64) -> u64
     ensures { λ r. ⌜ r ≡ rests.restAfter total position ⌝ }
 {
     if total == 0 {

@@ -85,6 +85,11 @@ pub ready-inside : (t : Table) (i : ℕ) → Ready t i → i < length (t .rows)
 ready-inside t i r =
     ⊎-elim (λ past. absurd (clash (r .going) (ap (λ (x : Row). isGoing (x .state)) (row-past t i past)))) (λ l. l) (le-or-lt (length (t .rows)) i)
 
+-- a ready row that weighs something takes W down
+pub freed-less : (t : Table) (i : ℕ) → Weighed t → Ready t i → freed t i .head .total < t .head .total
+freed-less t i weighed r =
+    omega (arith, freed-total t i, ready-weight t i r, weighed .weighs i (r .going), weight-within t i (weighed .sums) (ready-inside t i r))
+
 -- freeing a ready row keeps W and A true sums
 pub freed-true : (t : Table) (i : ℕ) → Ready t i → TrueSums t → TrueSums (freed t i)
 unfolding freed

@@ -17,7 +17,7 @@ use Rattle.rows.specs.Orderly.{OrderlyAs}
 use Rattle.rows.specs.Fits.{Exchanging}
 use Rattle.rows.proofs.Shares.{going-not-free, orderly-weighs, orderly-weight, orderly-moment, weight-small, moment-small}
 use Rattle.head.specs.Head.{entry}
-use Rattle.head.specs.Judged.{Small}
+use Rattle.head.specs.Judged.{Small, Replacing}
 use Rattle.head.proofs.Entry.{entry-empty, entry-least}
 use Rattle.share.specs.declared.Table.{Table}
 use Rattle.share.specs.Asks.{Placing}
@@ -99,3 +99,6 @@ module _ (t : Table) (queue : ℕ) (r : Row) (p : Placing t queue r) where
         has-it = moment-within t queue (sums-true (p .orderly)) inside-rows;
         fits = omega (arith, sum-most t (p .orderly), moment-small r (p .new), orderly-moment r (p .new));
       }
+
+  pub may-replace : Replacing (t .head) (row t queue) r
+  may-replace = record { old-orderly = p .orderly .each queue; new-orderly = p .new; weights = exchange-weights; moments = exchange-moments }

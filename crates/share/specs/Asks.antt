@@ -10,7 +10,7 @@ use Rattle.rows.specs.Looks.{beyond}
 use Rattle.head.specs.Refusals.{mayUse, ceilingPassed}
 use Rattle.share.specs.declared.Table.{Table}
 use Rattle.share.specs.Table.{row, AtMostV}
-use Rattle.share.specs.Sound.{Orderly, Ready, Calm, Sound}
+use Rattle.share.specs.Sound.{Orderly, Sound}
 use Rattle.share.specs.Events.{chosen}
 
 pub record Placing (t : Table) (queue : ℕ) (r : Row) : Type 0 where
@@ -21,10 +21,6 @@ pub record Placing (t : Table) (queue : ℕ) (r : Row) : Type 0 where
 pub record Releasing (t : Table) : Type 0 where
   pub orderly : Orderly t
   pub still : t .head .out ≡ false
-
-pub record FirstReady (t : Table) (i : ℕ) : Type 0 where
-  pub one : i < 64 → Ready t i
-  pub done : 64 ≤ i → Calm t
 
 -- no going row stands before this position
 pub record Ahead (t : Table) (nearest : ℕ) : Type 0 where

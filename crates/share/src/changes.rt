@@ -6,16 +6,13 @@ ghost use Rattle.share.specs.Events as events;
 ghost use Rattle.share.specs.Release as release;
 ghost use Rattle.share.specs.Table as table;
 use crate::Table;
-use head::rest_after;
 use rows::BLANK;
 use rows::Row;
 use rows::State;
 use rows::default_of;
-use rows::exchanged;
 use rows::is_ready;
 use rows::length_meant;
 use rows::lesser;
-use rows::moment;
 use rows::next_set;
 use rows::opened;
 
@@ -40,54 +37,34 @@ impl Table {
         let mut t = self;
         let old = t.rows[at];
         t.rows[at] = row;
-        t.head.total = exchanged(t.head.total, old.weight, row.weight);
-        t.head.sum = exchanged(t.head.sum, moment(old), moment(row));
-        t.head.resting = rest_after(t.head.total, old.position);
+        t.head = t.head.replaced(old, row);
         t
     }
 
-    // The lowest going row that V has reached, or 64.
-    fn first_ready(self) -> usize
-        requires { ⌜ asks.Releasing self ⌝ }
-        ensures { λ r. ⌜ asks.FirstReady self r ⌝ }
-    {
-        let total = self.head.total;
-        let sum = self.head.sum;
-        let mut i: usize = 0;
-        while i < 64 {
-            let row = self.rows[i];
-            if is_ready(row, total, sum) {
-                return i;
-            }
-            i += 1;
-        }
-        64
-    }
-
-    // Going rows that V has reached are freed until there is none; freeing one may make another ready.
-    pub(crate) fn released(self) -> Table
-        requires { ⌜ asks.Releasing self ⌝ }
-        ensures { λ r. ⌜ r ≡ release.released self ⌝ }
-    {
-        let mut t = self;
-        let mut i = t.first_ready();
-        while i < 64 {
-            t = t.placed(i as u64, BLANK);
-            i = t.first_ready();
-        }
-        t
-    }
-
-    // The release that ends an event. No going row stands before `nearest`: where V has not reached even that, there is nothing to free.
-    fn settled(self, nearest: u64) -> Table
+    // The release that ends an event: going rows that V has reached are freed, pass after pass from the top, until W stays as it was and so a pass has freed
+    // none. Freeing one may make another ready. No going row stands before `nearest`: where V has not reached even that, there is no pass.
+    pub(crate) fn released(self, nearest: u64) -> Table
         requires { ⌜ asks.Settling self nearest ⌝ }
         ensures { λ r. ⌜ r ≡ release.released self ⌝ }
     {
-        let head = self.head;
-        if head.reached(nearest) {
-            return self.released();
+        let mut t = self;
+        let mut weight = t.head.total;
+        if t.head.reached(nearest) {
+            weight += 1;
         }
-        self
+        while t.head.total < weight {
+            weight = t.head.total;
+            let mut i: usize = 64;
+            while 0 < i {
+                i -= 1;
+                let row = t.rows[i];
+                if is_ready(row, t.head.total, t.head.sum) {
+                    t.rows[i] = BLANK;
+                    t.head = t.head.replaced(row, BLANK);
+                }
+            }
+        }
+        t
     }
 
     pub(crate) fn joined(self, queue: u64, weight: u64, length: u64, nearest: u64) -> Table
@@ -102,7 +79,7 @@ impl Table {
             position,
             state: State::Asking(request),
         };
-        self.placed(queue, row).settled(nearest)
+        self.placed(queue, row).released(nearest)
     }
 
     // Freed if V has reached it; else it goes, with its weight kept in W, and is released when V does.
@@ -115,14 +92,14 @@ impl Table {
         let position = row.position;
         let head = self.head;
         if head.reached(position) {
-            return self.placed(queue, BLANK).settled(nearest);
+            return self.placed(queue, BLANK).released(nearest);
         }
         let gone = Row {
             weight,
             position,
             state: State::Going,
         };
-        self.placed(queue, gone).settled(lesser(nearest, position))
+        self.placed(queue, gone).released(lesser(nearest, position))
     }
 
     pub(crate) fn reweighted(self, queue: u64, weight: u64, length: u64, nearest: u64) -> Table

@@ -250,7 +250,7 @@ impl Table {
                         t.head.holder = 0;
                         t.head.ticks = 0;
                         if reached(seen.nearest, total, t.head.sum) {
-                            t = t.released();
+                            t = t.released(seen.nearest);
                         }
                     }
                 }

@@ -25,7 +25,7 @@ use Rattle.head.specs.Head.{concerns, sliced}
 use Rattle.head.specs.Refusals.{firstOf, verdictOf, verdictFor}
 use Rattle.head.specs.Slice.{sliceFor}
 use Rattle.share.specs.declared.Table.{Table}
-use Rattle.share.specs.Asks.{Ahead, Releasing, Settling, Grants, Returns}
+use Rattle.share.specs.Asks.{Ahead, Settling, Grants, Returns}
 use Rattle.share.specs.Calls.{accepted, checksOf, doneBy, step}
 use Rattle.share.specs.Events.{chosen, sliceGiven, granted, returned}
 use Rattle.share.specs.Release.{released, done as frees-done}
@@ -445,7 +445,8 @@ reached-requires c κs =
 released-requires : tie.Need-released-requires Inv-loop μ-loop
 released-requires c κs =
     let x = summed-up (c .before .before) in
-    subst⁻¹ Releasing (changed x) (record { orderly = settling (event-back x) .orderly; still = settling (event-back x) .still })
+    let nearest = survey-told (judged (nothing-against (event-back x))) .survey .result .nearest in
+    subst⁻¹ (λ (u : Table). Settling u nearest) (changed x) (settling (event-back x))
 
 returns-8 : tie.Need-returns-8 Inv-loop μ-loop
 returns-8 c =

@@ -1,4 +1,4 @@
--- `Table::joined`: the newcomer's row is orderly, so it can be placed and the table settled.
+-- `Table::joined`: the newcomer's row is orderly, so it can be placed and the table released.
 use mathlib.Core.Path.{refl, subst⁻¹, ap, _∙_, _≡_}
 use Prim.Native.Nat.{ℕ}
 use borrow.Author.Needs.{needs}
@@ -82,8 +82,8 @@ module _ (c : tie.After-opened) where
 placed-requires : tie.Need-placed-requires
 placed-requires c κs = placing c
 
-settled-requires : tie.Need-settled-requires
-settled-requires c κs =
+released-requires : tie.Need-released-requires
+released-requires c κs =
     let s = start (c .before) in
     rw (c .placed .ensures)
     (placed-settling (s .args .self) (s .args .queue) _ (s .args .nearest) (placing (c .before)) (s .pre .0 .still) (s .pre .1) (λ g. absurd (clash g refl)))
@@ -92,7 +92,7 @@ returns : tie.Need-returns
 unfolding joined
 returns c =
     let made = c .before .before in
-    c .settled .ensures ∙ ap released (c .before .placed .ensures ∙ ap (placed (table made) (start made .args .queue)) (row-is made))
+    c .released .ensures ∙ ap released (c .before .placed .ensures ∙ ap (placed (table made) (start made .args .queue)) (row-is made))
 
 pub joined-spec : {M : Type 1} → statement M
 joined-spec =
@@ -103,5 +103,5 @@ joined-spec =
     length-meant-requires
     opened-requires
     placed-requires
-    settled-requires
+    released-requires
     returns)

@@ -42,8 +42,8 @@ freeing c =
 placed-requires : tie.Need-placed-requires
 placed-requires c κs = freeing c
 
-settled-requires : tie.Need-settled-requires
-settled-requires c κs =
+released-requires : tie.Need-released-requires
+released-requires c κs =
     let start = row-read (c .before .before) .before in
     let a = start .args in
     rw (c .placed .ensures)
@@ -56,7 +56,7 @@ returns c =
     let a = row-read judged .before .args in
     let owed : reached (a .self) (row (a .self) (a .queue) .position) ≡ true =
     rw (row-read judged .row-of .ensures) at (sym (judged .reached .ensures) ∙ c .before .before .if1 .taken) in
-    rw (c .settled .ensures, c .before .placed .ensures, owed)
+    rw (c .released .ensures, c .before .placed .ensures, owed)
 
 going-row : (c : tie.Else1) → let r = row-read (c .before) in Placing (r .before .args .self) (r .before .args .queue) (record { weight = r .row-of .result .weight; position = r .row-of .result .position; state = Going })
 going-row c =
@@ -74,8 +74,8 @@ placed-requires-2 c κs = going-row c
 lesser-requires : tie.Need-lesser-requires
 lesser-requires c κs = search needs
 
-settled-requires-2 : tie.Need-settled-requires-2
-settled-requires-2 c κs =
+released-requires-2 : tie.Need-released-requires-2
+released-requires-2 c κs =
     let start = row-read (c .before .before .before) .before in
     let a = start .args in
     rw (c .before .placed2 .ensures, c .lesser .ensures)
@@ -90,7 +90,7 @@ returns-2 c =
     let a = row-read judged .before .args in
     let owing : reached (a .self) (row (a .self) (a .queue) .position) ≡ false =
     rw (row-read judged .row-of .ensures) at (sym (judged .reached .ensures) ∙ goes .if1 .left) in
-    rw (c .settled2 .ensures, c .before .before .placed2 .ensures, row-read judged .row-of .ensures, owing)
+    rw (c .released2 .ensures, c .before .before .placed2 .ensures, row-read judged .row-of .ensures, owing)
 
 pub left-spec : {M : Type 1} → statement M
 left-spec =
@@ -99,9 +99,9 @@ left-spec =
     row-of-requires
     reached-requires
     placed-requires
-    settled-requires
+    released-requires
     returns
     placed-requires-2
     lesser-requires
-    settled-requires-2
+    released-requires-2
     returns-2)
