@@ -19,6 +19,7 @@ impl Head {
         (sum + (total - 1)) / total
     }
 
+    // Within the ceiling while no row is present, and 0 while one is.
     pub(crate) fn rest_orderly(self) -> bool
         ensures { λ r. ⌜ r ≡ rests.orderlyRest self ⌝ }
     {

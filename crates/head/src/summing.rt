@@ -1,8 +1,5 @@
 // W and A when one row takes another's place.
 ghost use mathlib.Core.Path.{_≡_};
-ghost use Prim.Native.Nat.{_+_, _-_};
-ghost use Rattle.rows.specs.Row.{momentIn, weightIn};
-ghost use Rattle.head.specs.Head as heads;
 ghost use Rattle.head.specs.Judged as judged;
 ghost use Rattle.head.specs.Rest as rests;
 use crate::Head;
@@ -15,7 +12,7 @@ impl Head {
     // The old row's share leaves W and A, the new row's enters; where no row is left, the table rests where the old one stood.
     pub fn replaced(self, old: Row, new: Row) -> Head
         requires { ⌜ judged.Replacing self old new ⌝ }
-        ensures { λ r. ⌜ r ≡ heads.summed self (self .total + weightIn new - weightIn old) (self .sum + momentIn new - momentIn old) (rests.restAfter (self .total + weightIn new - weightIn old) (old .position)) ⌝ }
+        ensures { λ r. ⌜ r ≡ rests.replaced self old new ⌝ }
     {
         let mut h = self;
         h.total = exchanged(h.total, old.weight, new.weight);

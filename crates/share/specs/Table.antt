@@ -2,14 +2,14 @@
 use mathlib.Core.Path.{_≡_}
 use mathlib.Core.Bool.{Bool}
 use mathlib.Core.List.{List}
-use Prim.Native.Nat.{ℕ, _+_, _-_}
+use Prim.Native.Nat.{ℕ, _-_}
 use lib.ListN.{getD, set}
 use Rattle.laws.specs.Lists.{sumOf}
 use Rattle.rows.specs.declared.Row.{Row}
 use Rattle.rows.specs.Row.{blank, weightIn, momentIn}
 use Rattle.head.specs.Head as Head
-use Rattle.head.specs.Head.{sliced, summed}
-use Rattle.head.specs.Rest.{restAfter}
+use Rattle.head.specs.Head.{sliced}
+use Rattle.head.specs.Rest.{replaced}
 use Rattle.share.specs.declared.Table.{Table}
 
 -- the row of a queue number; past the last there is none
@@ -31,20 +31,9 @@ AtMostV t position = Head.AtMostV (t .head) position
 abbrev pub reached : Table → ℕ → Bool
 reached t position = Head.reachedBy (t .head) position
 
--- W and A with a row put in another's place: the old row's share leaves, the new row's enters
-abbrev pub totalWith : Table → ℕ → Row → ℕ
-totalWith t i r = t .head .total + weightIn r - weightIn (row t i)
-
-abbrev pub sumWith : Table → ℕ → Row → ℕ
-sumWith t i r = t .head .sum + momentIn r - momentIn (row t i)
-
--- the table with a row put in another's place; where no row is left it rests where the old one stood (T-02)
+-- the table with a row put in another's place: the old row's share leaves W and A, the new row's enters; where no row is left it rests (T-02)
 unfoldable pub placed : Table → ℕ → Row → Table
-placed t i r =
-    record {
-      rows = set (t .rows) i r;
-      head = summed (t .head) (totalWith t i r) (sumWith t i r) (restAfter (totalWith t i r) (row t i .position));
-    }
+placed t i r = record { rows = set (t .rows) i r; head = replaced (t .head) (row t i) r }
 
 -- the table with a slice out, or with none
 unfoldable pub withSlice : Table → Bool → ℕ → ℕ → Table

@@ -48,6 +48,7 @@ impl Table {
         ensures { λ r. ⌜ r ≡ release.released self ⌝ }
     {
         let mut t = self;
+        // What W was before the last pass; more than it is, where there is to be a first one.
         let mut weight = t.head.total;
         if t.head.reached(nearest) {
             weight += 1;
