@@ -216,7 +216,7 @@ enters-at-the-least = Entry.entry-least
 pub ties-to-the-lower : (t : Table) (i j : ℕ) → Chosen t i → eligible t (row t j) ≡ true → deadline (row t j) ≡ deadline (row t i) → i ≤ j
 ties-to-the-lower = Choosing.lowest-number
 
--- "and departures."
+-- "and departures." (In any order, of a table with true sums whose going rows weigh something: the last one freed then stands at V, whichever it is, T-02.)
 pub released-in-any-order : {t u v : Table} → Weighed t → Frees t u → Frees t v → u ≡ v
 released-in-any-order = Release.same-end
 
