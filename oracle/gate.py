@@ -25,7 +25,7 @@ from cases import EXAMPLE
 
 LINES = 1500
 SEED = 38                           # of report 96-038; any would do
-MET_IN_A_RUN = {0, *range(2, 12), 14, 15}
+MET_IN_A_RUN = {0, *range(2, 12), 14, 15, 23}
 
 # A line, then the answer that document 01 gives it. The table is the one that
 # the line before leaves behind.
@@ -79,6 +79,15 @@ S 3=0 J 0 2 3=0 J 1 3 3=0 J 2 5 3=0 G=0 U 2 3 0=0 L 2=0 G=0 U 1 3 0=0 L 1=0 L 0=
 J 9 7 2=0 G=0 U 9 2 0=0 J 8 1 1=0 L 8=0 L 9=0 G=11 J 63 16 1=0 W 63 1 1=0 L 63=0 J 0 1 1=0 G=0
 """
 
+# T-06: the same events under no rule named, rule 1 and rule 2. At the first grant 0
+# and 1 are due at the same place and stand at the same position; at the second 0 has
+# served a tick of two and stands ahead of 1, so rule 1 goes to 0 and rule 2 to 1.
+TIES = """\
+S 1=0 J 0 2 2=0 J 1 1 1=0 G=0 U 0 1 0=0 G=0 U 0 1 0=0
+S 1 1=0 J 0 2 2=0 J 1 1 1=0 G=0 U 0 1 0=0 G=0 U 0 1 0=0
+S 1 2=0 J 0 2 2=0 J 1 1 1=0 G=0 U 0 1 0=0 S 1 0=23 S 1 3=23 S 1 99999=23 S 0 3=14 S 101 1=14 G=0 U 1 1 0=0
+"""
+
 # T-04: when 5 leaves, 3 is released, and that makes 4 ready, whose row the walk from
 # the top has passed by then: it takes a second pass.
 TWO_PASSES = """\
@@ -126,6 +135,7 @@ def gate_lines():
     put_scripted(run, LONE)
     put_scripted(run, EMPTIED)
     put_scripted(run, TWO_PASSES)
+    put_scripted(run, TIES)
     put_broken(run)
     generate.extend_mixed(run, LINES - 1)
     run.put(b"G")

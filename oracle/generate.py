@@ -94,6 +94,7 @@ EDGE_WEIGHTS = (0, 1, 2, 15, 16, 17, 32, 256, 65_537, 99_999)
 EDGE_LENGTHS = (0, 1, 2, 19, 20, 9_999, 10_000, 10_001, 65_536, 99_999)
 EDGE_TICKS = (0, 1, 2, 99, 100, 101, 10_000, 65_536, 99_999)
 EDGE_LIMITS = (0, 101, 102, 256, 65_537, 99_999)
+EDGE_RULES = (0, 3, 4, 255, 256, 99_999)
 
 
 class Run:
@@ -146,10 +147,15 @@ def length(run):
     return run.dice.between(shortest, longest)
 
 
+def rule(run):
+    """The rule for ties: none named, which is rule 1, or one of the two."""
+    return run.dice.pick(((), (1,), (2,), (2,)))
+
+
 def fresh_line(run):
     if run.dice.chance(0.3):
-        return text(b"S", run.dice.pick((1, 2, 99, 100)))
-    return text(b"S", run.dice.between(*run.kind.limits))
+        return text(b"S", run.dice.pick((1, 2, 99, 100)), *rule(run))
+    return text(b"S", run.dice.between(*run.kind.limits), *rule(run))
 
 
 def join_line(run):
@@ -255,6 +261,8 @@ def wild_line(run):
 
 
 def refused_fresh(run):
+    if run.dice.chance(0.5):
+        return text(b"S", run.dice.pick((1, 7, 100, 101)), run.dice.pick(EDGE_RULES))
     return text(b"S", run.dice.pick(EDGE_LIMITS))
 
 

@@ -50,10 +50,11 @@ class Queue:
 class Table:
     """The rows that are not free, with W, V and the slice that is out."""
 
-    __slots__ = ("limit", "present", "total", "virtual", "holder", "ticks")
+    __slots__ = ("limit", "rule", "present", "total", "virtual", "holder", "ticks")
 
-    def __init__(self, limit):
+    def __init__(self, limit, rule):
         self.limit = limit
+        self.rule = rule            # for ties (T-06)
         self.present = {}           # queue number -> Queue
         self.total = 0              # W
         self.virtual = Fraction(0)  # V, which an empty table keeps (T-02)
@@ -197,14 +198,21 @@ def set_length(table, number, length):
     return 0
 
 
+def stands_at(table, queue):
+    """Where a queue with this account stands in virtual time."""
+    return table.virtual - queue.account * UNIT / queue.weight
+
+
 def choose(table):
-    """The eligible request with the least deadline, then the lowest number."""
-    eligible = [(queue.deadline, number)
+    """The eligible request with the least deadline, then by the table's rule:
+    the lowest number, or the least position and then the lowest number."""
+    eligible = [(queue.deadline, stands_at(table, queue) if table.rule == 2 else 0, number)
                 for number, queue in table.present.items()
                 if not queue.going and queue.opening <= table.virtual]
     if not eligible:
         raise CheckFailed("the table is not empty and nobody can be granted")
-    return min(eligible)
+    deadline, _, number = min(eligible)
+    return deadline, number
 
 
 def grant(table):
@@ -232,8 +240,7 @@ def take_back(table, number, used, early):
     queue.account -= used
     queue.left -= used
     if queue.left == 0 or early:    # equations 11 and 12
-        stands_at = table.virtual - queue.account * UNIT / queue.weight
-        open_request(queue, stands_at)
+        open_request(queue, stands_at(table, queue))
     table.holder, table.ticks = None, 0
     release(table)
     return 0
@@ -243,7 +250,7 @@ def take_back(table, number, used, early):
 
 NUMBER = rb" (0|[1-9][0-9]{0,4})"
 GRAMMAR = {
-    b"S": (re.compile(rb"S" + NUMBER), None),
+    b"S": (re.compile(rb"S" + NUMBER + rb"(?:" + NUMBER + rb")?"), None),
     b"J": (re.compile(rb"J" + 3 * NUMBER), join),
     b"L": (re.compile(rb"L" + NUMBER), leave),
     b"W": (re.compile(rb"W" + 3 * NUMBER), reweight),
@@ -263,7 +270,7 @@ def read_line(line):
     found = pattern.fullmatch(line) if pattern else None
     if found is None:
         return None
-    return event, [int(digits) for digits in found.groups()]
+    return event, [int(digits) for digits in found.groups() if digits is not None]
 
 
 def answer_line(table, line):
@@ -273,14 +280,18 @@ def answer_line(table, line):
         return table, BROKEN_LINE
     event, numbers = call
     if event is None:               # S: a fresh table, or the present one kept
-        limit = numbers[0]
-        return (Table(limit), 0) if 1 <= limit <= LARGEST_LIMIT else (table, 14)
+        limit, rule = numbers if len(numbers) == 2 else (numbers[0], 1)
+        if not 1 <= limit <= LARGEST_LIMIT:
+            return table, 14
+        if rule not in (1, 2):
+            return table, 23
+        return Table(limit, rule), 0
     return table, event(table, *numbers)
 
 
 def first_table():
     """bandtrace begins with the table that refusal 14 gives."""
-    return Table(1)
+    return Table(1, 1)
 
 
 def weighted_sum(table):

@@ -13,6 +13,7 @@ const HEAVIEST: u64 = 16;
 const LONGEST_LENGTH: u64 = 10_000;
 const DEFAULT_LENGTH: u64 = 20;
 const LARGEST_LIMIT: u64 = 100;
+const LAST_RULE: u64 = 2;
 const LARGEST_TOTAL: u64 = ROWS as u64 * HEAVIEST;
 /// P, the ceiling for positions.
 const CEILING: u64 = 1 << 48;
@@ -89,19 +90,22 @@ struct Table {
     /// Where V stands while no row is present; 0 while one is.
     resting: u64,
     limit: u64,
+    /// For ties: 1 to the lower number, 2 to the lesser position first.
+    rule: u64,
     out: bool,
     holder: usize,
     ticks: u64,
 }
 
 impl Table {
-    fn fresh(limit: u64) -> Table {
+    fn fresh(limit: u64, rule: u64) -> Table {
         Table {
             rows: [FREE_ROW; ROWS],
             total: 0,
             sum: 0,
             resting: 0,
             limit,
+            rule,
             out: false,
             holder: 0,
             ticks: 0,
@@ -110,7 +114,7 @@ impl Table {
 
     /// Document 01, "A sound table", in one walk over the rows.
     fn is_sound(&self) -> bool {
-        if !(1..=LARGEST_LIMIT).contains(&self.limit) || self.total > LARGEST_TOTAL {
+        if !(1..=LARGEST_LIMIT).contains(&self.limit) || !(1..=LAST_RULE).contains(&self.rule) || self.total > LARGEST_TOTAL {
             return false;
         }
         let (mut total, mut sum) = (0, 0);
@@ -314,16 +318,18 @@ impl Table {
         0
     }
 
-    /// Least deadline among the eligible; the walk upwards keeps the lowest
-    /// number of equal ones.
+    /// Least deadline among the eligible, and under rule 2 of equal ones the
+    /// least position; the walk upwards keeps the lowest number of what is left.
     fn choose(&self) -> Option<(usize, u64)> {
         let mut chosen = None;
-        let mut least = u64::MAX;
+        let mut least = (u64::MAX, 0);
         for (number, row) in self.rows.iter().enumerate() {
-            if row.state == State::Asking && self.is_reached(row.opening) && row.deadline() < least
-            {
-                least = row.deadline();
-                chosen = Some((number, least));
+            if row.state == State::Asking && self.is_reached(row.opening) {
+                let bid = (row.deadline(), if self.rule == 2 { row.position } else { 0 });
+                if bid < least {
+                    least = bid;
+                    chosen = Some((number, bid.0));
+                }
             }
         }
         chosen
@@ -417,11 +423,20 @@ fn answer(table: &mut Table, line: &[u8]) -> Option<u64> {
     let (letter, fields) = line.split_first()?;
     Some(match letter {
         b'S' => {
-            let [limit] = numbers(fields)?;
+            let (limit, rule) = match numbers(fields) {
+                Some([limit]) => (limit, 1),
+                None => {
+                    let [limit, rule] = numbers(fields)?;
+                    (limit, rule)
+                }
+            };
             if !(1..=LARGEST_LIMIT).contains(&limit) {
                 return Some(14);
             }
-            *table = Table::fresh(limit);
+            if !(1..=LAST_RULE).contains(&rule) {
+                return Some(23);
+            }
+            *table = Table::fresh(limit, rule);
             0
         }
         b'J' => {
@@ -479,7 +494,7 @@ struct Trace {
 impl Trace {
     fn new() -> Trace {
         Trace {
-            table: Table::fresh(1),
+            table: Table::fresh(1, 1),
             lines: 0,
             printed: b"line answer who slice sum total\n".to_vec(),
         }

@@ -24,7 +24,7 @@ use Rattle.head.specs.declared.Event.{Event}
 use Rattle.head.specs.declared.Event.the-variants.{Fresh, Join, Leave, Reweight, Length, Grant, Return}
 use Rattle.head.specs.declared.Head.{Head}
 use Rattle.head.specs.declared.Refusal.{Refusal}
-use Rattle.head.specs.declared.Refusal.the-variants.{LimitOutside}
+use Rattle.head.specs.declared.Refusal.the-variants.{LimitOutside, RuleOutside}
 use Rattle.head.specs.Answers.{refusalNumber, number, sliceGranted, queueGranted, denominatorGiven}
 use Rattle.head.specs.Lag.{lagOf}
 use Rattle.head.specs.Refusals.{firstOf}
@@ -35,7 +35,7 @@ use Rattle.share.specs.Events.{emptyTable, meant}
 use Rattle.share.specs.Release.{Frees, released, freed, Weighed}
 use Rattle.share.specs.Sound.{Sound, Orderly}
 use Rattle.share.specs.Table.{row, AtMostV, TrueSums}
-use Rattle.calls.specs.Against.{NoneLower, Against, LimitWrong, OnTable}
+use Rattle.calls.specs.Against.{NoneLower, Against, LimitWrong, RuleWrong, OnTable}
 use Rattle.calls.specs.Meaning.{FreshMeans, JoinMeans, LeaveMeans, ReweightMeans, LengthMeans, GrantMeans, ReturnMeans, LastFreed, StandsAs, NotBelow0}
 use Rattle.calls.specs.Public.{HandedBack, tableOf, Call, answered, doneOn, event}
 use Rattle.calls.specs.Rightly.{Rightly}
@@ -116,9 +116,12 @@ standing-hands-the-table-back = Answering.standing-table
 pub release-hands-the-table-back : (t : Table) → Sound t → releaseReply t ≡ accepted t
 release-hands-the-table-back = Calling.release-sound
 
--- (refused, `fresh` has none to hand back and gives the empty table of slice limit 1)
+-- (refused, `fresh` has none to hand back and gives the empty table of slice limit 1 and rule 1)
 pub refused-fresh-is-empty : (terms : Terms) → LimitWrong terms → freshReply terms ≡ refused (emptyTable leastTerms) LimitOutside
 refused-fresh-is-empty = Given.fresh-wrong
+
+pub fresh-of-no-rule-is-empty : (terms : Terms) → (LimitWrong terms → ⊥) → RuleWrong terms → freshReply terms ≡ refused (emptyTable leastTerms) RuleOutside
+fresh-of-no-rule-is-empty = Given.fresh-ruled-wrong
 
 -- "and a lent list stays untouched."
 pub refused-leaves-the-list : (t : Table) (lent : List ℤ) → number (lagReply t lent .answer) ≢ 0 → lagList t lent ≡ lent
@@ -212,9 +215,16 @@ enters-not-below-V = Entry.entry-not-below
 pub enters-at-the-least : (h : Head) → 0 < h .total → (c : ℕ) → h .sum ≤ c * h .total → Head.entry h ≤ c
 enters-at-the-least = Entry.entry-least
 
--- "ties"
-pub ties-to-the-lower : (t : Table) (i j : ℕ) → Chosen t i → eligible t (row t j) ≡ true → deadline (row t j) ≡ deadline (row t i) → i ≤ j
+-- "ties": under rule 1 to the lower number,
+pub ties-to-the-lower : (t : Table) (i j : ℕ) → Chosen t i → eligible t (row t j) ≡ true → deadline (row t j) ≡ deadline (row t i) → t .head .terms .rule ≡ 1 → i ≤ j
 ties-to-the-lower = Choosing.lowest-number
+
+-- under rule 2 (T-06) to the lesser position, then the lower number
+pub ties-to-the-lesser-position : (t : Table) (i j : ℕ) → Chosen t i → eligible t (row t j) ≡ true → deadline (row t j) ≡ deadline (row t i) → t .head .terms .rule ≡ 2 → row t i .position ≤ row t j .position
+ties-to-the-lesser-position = Choosing.lesser-position
+
+pub ties-of-position-to-the-lower : (t : Table) (i j : ℕ) → Chosen t i → eligible t (row t j) ≡ true → deadline (row t j) ≡ deadline (row t i) → t .head .terms .rule ≡ 2 → row t j .position ≡ row t i .position → i ≤ j
+ties-of-position-to-the-lower = Choosing.then-lowest
 
 -- "and departures." (In any order, of a table with true sums whose going rows weigh something: the last one freed then stands at V, whichever it is, T-02.)
 pub released-in-any-order : {t u v : Table} → Weighed t → Frees t u → Frees t v → u ≡ v

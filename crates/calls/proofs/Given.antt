@@ -13,9 +13,9 @@ use Rattle.rows.specs.declared.Row.{Row}
 use Rattle.rows.specs.declared.State.{State}
 use Rattle.rows.specs.declared.State.the-variants.{Free, Going, Asking}
 use Rattle.rows.specs.declared.Terms.{Terms}
-use Rattle.rows.specs.Numbers.{maxWeight, maxLimit, ceiling, leastTerms}
+use Rattle.rows.specs.Numbers.{maxWeight, maxLimit, maxRule, ceiling, leastTerms}
 use Rattle.rows.specs.Order.{bid, bidAs, bidOf}
-use Rattle.rows.specs.Orderly.{limitOutside, fitsCeiling, OrderlyAs}
+use Rattle.rows.specs.Orderly.{limitOutside, ruleOutside, fitsCeiling, OrderlyAs}
 use Rattle.rows.specs.Row.{isFree}
 use Rattle.rows.specs.Virtual.{eligibleAs, eligibleAt}
 use Rattle.rows.proofs.Orderly.{outside-says, says-outside}
@@ -23,7 +23,7 @@ use Rattle.head.specs.declared.Event.{Event}
 use Rattle.head.specs.declared.Event.the-variants.{Fresh, Join, Leave, Reweight, Length, Grant, Return}
 use Rattle.head.specs.declared.Head.{Head}
 use Rattle.head.specs.declared.Refusal.{Refusal}
-use Rattle.head.specs.declared.Refusal.the-variants.{Unsound, LimitOutside}
+use Rattle.head.specs.declared.Refusal.the-variants.{Unsound, LimitOutside, RuleOutside}
 use Rattle.head.specs.Answers.{refusalNumber, number}
 use Rattle.head.specs.Lag.{lagOf}
 use Rattle.head.specs.Refusals.{Check, _when_, checksFor, rowTaken, notAsking, ticksOutside, ceilingPassed, passedAs, firstOf, lagBelow}
@@ -36,14 +36,14 @@ use Rattle.share.specs.Sound.{Sound, sound}
 use Rattle.share.specs.Table.{row, AtMostV}
 use Rattle.share.proofs.Mean.{chosen-rightly}
 use Rattle.share.proofs.Sound.{sound-says, says-sound}
-use Rattle.calls.specs.Against.{Against, fresh-14, join-1, join-2, join-3, join-4, join-5, join-7, leave-1, leave-2, leave-5, leave-8, reweight-1, reweight-2, reweight-3, reweight-4, reweight-5, reweight-8, reweight-9, length-1, length-2, length-4, length-5, length-8, grant-1, grant-5, grant-11, grant-12, return-1, return-2, return-6, return-10, release-1, report-1, report-13, standing-1, standing-2, standing-31, PastCeiling, NotSound, OnTable, NoneLower, LimitWrong, Owes}
+use Rattle.calls.specs.Against.{Against, fresh-14, fresh-23, join-1, join-2, join-3, join-4, join-5, join-7, leave-1, leave-2, leave-5, leave-8, reweight-1, reweight-2, reweight-3, reweight-4, reweight-5, reweight-8, reweight-9, length-1, length-2, length-4, length-5, length-8, grant-1, grant-5, grant-11, grant-12, return-1, return-2, return-6, return-10, release-1, report-1, report-13, standing-1, standing-2, standing-31, PastCeiling, NotSound, OnTable, NoneLower, LimitWrong, RuleWrong, Owes}
 use Rattle.calls.specs.Meaning.{NotBelow0}
 use Rattle.calls.specs.Public.{HandedBack, doneOn, Call, event, release, report, standing, checksOn, answered}
 use Rattle.calls.proofs.Applying.{none-applies, Applies, here, later, queue-outside, length-outside, unsound-says, not-holder-says, lag-below-says, empty-says, first-applies, applies-given, first-lowest, lowest-first}
 use Rattle.calls.proofs.Calling.{answered-done, answered-refused, on-ordered, done-number}
 use Rattle.calls.proofs.Choosing.{chosen-choice}
 use Rattle.calls.proofs.Numbered.{same-refusal, known}
-use Rattle.calls.proofs.Replies.{fresh-refused}
+use Rattle.calls.proofs.Replies.{fresh-refused, fresh-of-no-rule}
 use Rattle.calls.proofs.Standing.{empty-means, lag-sign}
 
 -- 12: the deadline of the row that is chosen
@@ -52,17 +52,17 @@ passed-asks Free w e = absurd (clash e refl)
 passed-asks Going w e = refl
 passed-asks (Asking q) w e = refl
 
-passed-deadline : (s : State) (w : ℕ) → passedAs s w ≡ true → ceiling < bidAs s w .deadline
+passed-deadline : (s : State) (w p : ℕ) → passedAs s w ≡ true → ceiling < bidAs s w p .deadline
 unfolding fitsCeiling bidOf
-passed-deadline Free w e = absurd (clash e refl)
-passed-deadline Going w e = absurd (clash e refl)
-passed-deadline (Asking q) w e = leb-false _ _ (not-true _ e)
+passed-deadline Free w p e = absurd (clash e refl)
+passed-deadline Going w p e = absurd (clash e refl)
+passed-deadline (Asking q) w p e = leb-false _ _ (not-true _ e)
 
-deadline-passed : (total sum : ℕ) (s : State) (w : ℕ) → eligibleAs total sum s ≡ true → ceiling < bidAs s w .deadline → passedAs s w ≡ true
+deadline-passed : (total sum : ℕ) (s : State) (w p : ℕ) → eligibleAs total sum s ≡ true → ceiling < bidAs s w p .deadline → passedAs s w ≡ true
 unfolding fitsCeiling bidOf
-deadline-passed total sum Free w e above = absurd (clash e refl)
-deadline-passed total sum Going w e above = absurd (clash e refl)
-deadline-passed total sum (Asking q) w e above = ap not (lt-leb _ _ above)
+deadline-passed total sum Free w p e above = absurd (clash e refl)
+deadline-passed total sum Going w p e above = absurd (clash e refl)
+deadline-passed total sum (Asking q) w p e above = ap not (lt-leb _ _ above)
 
 chosen-is : (t : Table) (i : ℕ) → choice t ≡ some i → chosen t ≡ i
 unfolding chosen
@@ -79,12 +79,12 @@ module _ (t : Table) (is : Sound t) where
         record {
           queue = chosen t;
           is-chosen = chosen-rightly t is (present (passed-asks (r .state) (r .weight) e));
-          above = passed-deadline (r .state) (r .weight) e;
+          above = passed-deadline (r .state) (r .weight) (r .position) e;
         },
     λ p. let same : chosen t ≡ p .queue = chosen-is t (p .queue) (chosen-choice t (p .queue) (p .is-chosen)) in
         let r = row t (p .queue) in
         subst⁻¹ (λ (i : ℕ). passedAs (row t i .state) (row t i .weight) ≡ true) same
-        (deadline-passed (t .head .total) (t .head .sum) (r .state) (r .weight) (p .is-chosen .asks) (p .above)),
+        (deadline-passed (t .head .total) (t .head .sum) (r .state) (r .weight) (r .position) (p .is-chosen .asks) (p .above)),
   )
 
 -- 9: by the lag of the row; a free row stands at 0, and owes nothing
@@ -126,10 +126,11 @@ module _ (S : Refusal → Type 0) where
 -- On a sound table what speaks against a call is what its checks say.
 module _ (t : Table) (is : Sound t) where
   reads-event : (e : Event) {why : Refusal} → Applies why (checksOf t e) → Against t (event e) why
-  unfolding checksOf checksFor rowTaken notAsking ticksOutside limitOutside
+  unfolding checksOf checksFor rowTaken notAsking ticksOutside limitOutside ruleOutside
   reads-event (Fresh terms) =
       first-of (Against t (event (Fresh terms))) (λ p. fresh-14 (outside-says 1 maxLimit (terms .limit) p))
-      (no-more (Against t (event (Fresh terms))))
+      (first-of (Against t (event (Fresh terms))) (λ p. fresh-23 (outside-says 1 maxRule (terms .rule) p))
+      (no-more (Against t (event (Fresh terms)))))
   reads-event (Join q w l) =
       first-of (Against t (event (Join q w l))) (λ p. join-1 (unsound-says t .0 p))
       (first-of (Against t (event (Join q w l))) (λ p. join-2 (queue-outside q .0 p))
@@ -187,8 +188,9 @@ module _ (t : Table) (is : Sound t) where
       (no-more (Against t (standing q)))))
 
   back : {c : Call} {why : Refusal} → Against t c why → Applies why (checksOn t c)
-  unfolding checksOf checksFor rowTaken notAsking ticksOutside limitOutside releaseChecks lagChecks standingChecks
+  unfolding checksOf checksFor rowTaken notAsking ticksOutside limitOutside ruleOutside releaseChecks lagChecks standingChecks
   back (fresh-14 {terms} h) = here (says-outside 1 maxLimit (terms .limit) h)
+  back (fresh-23 {terms} h) = later (here (says-outside 1 maxRule (terms .rule) h))
   back (join-1 h) = here (unsound-says t .1 h)
   back (join-2 {q} h) = later (here (queue-outside q .1 h))
   back (join-3 {w = w} h) = later (later (here (says-outside 1 maxWeight w h)))
@@ -252,12 +254,15 @@ module _ (t : Table) (c : Call) (read : (why : Refusal) → Applies why (checksO
 
 -- a fresh table asks nothing of the present one
 fresh-reads : (t : Table) (terms : Terms) (why : Refusal) → Applies why (checksOf t (Fresh terms)) → Against t (event (Fresh terms)) why
-unfolding checksOf checksFor limitOutside
-fresh-reads t terms why (here p) = fresh-14 (outside-says 1 maxLimit (terms .limit) p)
+unfolding checksOf checksFor limitOutside ruleOutside
+fresh-reads t terms why =
+    first-of (Against t (event (Fresh terms))) (λ p. fresh-14 (outside-says 1 maxLimit (terms .limit) p))
+    (first-of (Against t (event (Fresh terms))) (λ p. fresh-23 (outside-says 1 maxRule (terms .rule) p)) (no-more (Against t (event (Fresh terms)))))
 
 fresh-back : (t : Table) (terms : Terms) (why : Refusal) → Against t (event (Fresh terms)) why → Applies why (checksOf t (Fresh terms))
-unfolding checksOf checksFor limitOutside
+unfolding checksOf checksFor limitOutside ruleOutside
 fresh-back t terms why (fresh-14 h) = here (says-outside 1 maxLimit (terms .limit) h)
+fresh-back t terms why (fresh-23 h) = later (here (says-outside 1 maxRule (terms .rule) h))
 
 -- on a table that isn't sound every other call answers 1
 module _ (t : Table) (not-sound : NotSound t) where
@@ -351,6 +356,12 @@ done-where-nothing t c nothing-speaks = by (firstOf (checksOn t c)) refl
         absurd (nothing-speaks given (given-exactly t c given .0 (answered-refused t c given is .answer-is) .0))
 
 -- refused, `fresh` has no table to hand back
+-- nor of a rule that there is not
+pub fresh-ruled-wrong : (terms : Terms) → (LimitWrong terms → ⊥) → RuleWrong terms → freshReply terms ≡ refused (emptyTable leastTerms) RuleOutside
+unfolding limitOutside ruleOutside
+fresh-ruled-wrong terms fine h =
+    fresh-of-no-rule terms (refuted (limitOutside terms) (λ e. fine (outside-says 1 maxLimit (terms .limit) e))) (says-outside 1 maxRule (terms .rule) h)
+
 pub fresh-wrong : (terms : Terms) → LimitWrong terms → freshReply terms ≡ refused (emptyTable leastTerms) LimitOutside
 unfolding limitOutside
 fresh-wrong terms h = fresh-refused terms (says-outside 1 maxLimit (terms .limit) h)

@@ -42,7 +42,7 @@ use Rattle.share.proofs.Sound.{says-sound}
 use Rattle.share.proofs.Stepping.{call-refused, call-accepted}
 use Rattle.share.proofs.Totals.{sums-true}
 use Rattle.calls.specs.Rightly.{Rightly}
-use Rattle.calls.proofs.Choosing.{least-deadline, lowest-number}
+use Rattle.calls.proofs.Choosing.{least-deadline, lowest-number, lesser-position, then-lowest}
 
 -- a row that holds a slice is asking, and weighs at least 1
 held-weighs : (h : Head) (s : State) (w p : ℕ) → HeldBy h s w → OrderlyAs s w p → 1 ≤ w
@@ -105,11 +105,11 @@ eligible-request t Going e = absurd (clash e refl)
 eligible-request t (Asking q) e = (q, refl, reached-yes (q .opening) (t .head .total) (t .head .sum) e)
 
 -- a deadline that does not pass the ceiling
-not-passed : (s : State) (w : ℕ) → passedAs s w ≡ false → bidAs s w .deadline ≤ ceiling
+not-passed : (s : State) (w p : ℕ) → passedAs s w ≡ false → bidAs s w p .deadline ≤ ceiling
 unfolding bidOf
-not-passed Free w e = omega arith
-not-passed Going w e = omega arith
-not-passed (Asking q) w e = fits-says w q (not-false _ e)
+not-passed Free w p e = omega arith
+not-passed Going w p e = omega arith
+not-passed (Asking q) w p e = fits-says w q (not-false _ e)
 
 pub granted-rightly : (t : Table) → Grants t → Rightly t (chosen t) (sliceGiven t)
 unfolding eligible eligibleAt sliceGiven sliceFor sliceMost ceilingPassed deadline bid
@@ -121,9 +121,11 @@ granted-rightly t g =
       asking = found .1;
       opening-reached = found .2;
       least = λ j e. least-deadline t (chosen t) j meets e;
-      lowest = λ j e same. lowest-number t (chosen t) j meets e same;
+      tie-1 = λ is j e same. lowest-number t (chosen t) j meets e same is;
+      tie-2 = λ is j e same. lesser-position t (chosen t) j meets e same is;
+      tie-2-level = λ is j e same level. then-lowest t (chosen t) j meets e same is level;
       slice-is = ap (sliceAs (t .head .terms)) (found .1);
-      below-ceiling = not-passed (row t (chosen t) .state) (row t (chosen t) .weight) (g .fits);
+      below-ceiling = not-passed (row t (chosen t) .state) (row t (chosen t) .weight) (row t (chosen t) .position) (g .fits);
     }
 
 -- a grant that is not refused names such a queue, and only one queue is such

@@ -5,9 +5,9 @@ use mathlib.Core.Option.{Option, none, some}
 use mathlib.Core.Path.{_≡_, refl}
 use Rattle.rows.specs.declared.Terms.{Terms}
 use Rattle.rows.specs.Numbers.{leastTerms}
-use Rattle.rows.specs.Orderly.{limitOutside}
+use Rattle.rows.specs.Orderly.{limitOutside, ruleOutside}
 use Rattle.head.specs.declared.Refusal.{Refusal}
-use Rattle.head.specs.declared.Refusal.the-variants.{LimitOutside}
+use Rattle.head.specs.declared.Refusal.the-variants.{LimitOutside, RuleOutside}
 use Rattle.head.specs.Refusals.{Check, firstOf, checksFor}
 use Rattle.share.specs.declared.Reply.{Reply}
 use Rattle.share.specs.declared.Table.{Table}
@@ -29,9 +29,13 @@ pub fresh-refused : (terms : Terms) → limitOutside terms ≡ true → freshRep
 unfolding step checksOf checksFor
 fresh-refused terms e = call-refused _ _ _ _ (rw e refl)
 
-pub fresh-accepted : (terms : Terms) → limitOutside terms ≡ false → freshReply terms ≡ accepted (emptyTable terms)
+pub fresh-of-no-rule : (terms : Terms) → limitOutside terms ≡ false → ruleOutside terms ≡ true → freshReply terms ≡ refused (emptyTable leastTerms) RuleOutside
 unfolding step checksOf checksFor
-fresh-accepted terms e = call-accepted _ _ _ (rw e refl)
+fresh-of-no-rule terms e f = call-refused _ _ _ _ (rw (e, f) refl)
+
+pub fresh-accepted : (terms : Terms) → limitOutside terms ≡ false → ruleOutside terms ≡ false → freshReply terms ≡ accepted (emptyTable terms)
+unfolding step checksOf checksFor
+fresh-accepted terms e f = call-accepted _ _ _ (rw (e, f) refl)
 
 pub refused-handed-back : (checks : List Check) (t : Table) (event : Reply) (why : Refusal) → firstOf checks ≡ some why → HandedBack t (call checks t event) why
 refused-handed-back checks t event why e =

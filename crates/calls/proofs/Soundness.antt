@@ -18,7 +18,7 @@ use Rattle.rows.specs.Orderly.{OrderlyRow, Allowed, sliceLeast}
 use Rattle.rows.specs.Requests.{entering, nextSet, rowNextSet, charged}
 use Rattle.rows.specs.Row.{blank, isFree, isGoing, isAsking, weightIn, momentIn}
 use Rattle.rows.specs.Virtual.{eligibleAs, eligibleAt}
-use Rattle.rows.proofs.Orderly.{fits-says, limit-within}
+use Rattle.rows.proofs.Orderly.{fits-says, limit-within, rule-within, rule-within}
 use Rattle.rows.proofs.Requests.{entering-orderly, next-orderly, charged-orderly}
 use Rattle.rows.proofs.Virtual.{reached-yes}
 use Rattle.head.specs.declared.Event.{Event}
@@ -177,7 +177,11 @@ empty-sound terms is-allowed =
 
 -- terms that no refusal of a fresh table speaks against are allowed
 pub fresh-allowed : (terms : Terms) → firstOf (freshChecks terms) ≡ none → Allowed terms
-fresh-allowed terms e = let limit = limit-within terms (fails-at (freshChecks terms) e 0) in record { limit-low = limit .0; limit-high = limit .1 }
+fresh-allowed terms e =
+    let fails = fails-at (freshChecks terms) e in
+    let limit = limit-within terms (fails 0) in
+    let rule = rule-within terms (fails 1) in
+    record { limit-low = limit .0; limit-high = limit .1; rule-low = rule .0; rule-high = rule .1 }
 
 -- what an accepted event leaves
 done-sound : (t : Table) (e : Event) → firstOf (checksOf t e) ≡ none → Sound (doneBy t e .table)

@@ -94,7 +94,7 @@ flagNumber false = 0
 
 abbrev pub tableNumbers : Table → List ℕ
 tableNumbers t =
-    t .head .total ∷ t .head .sum ∷ t .head .resting ∷ t .head .terms .limit ∷ flagNumber (t .head .out) ∷ t .head .holder ∷ t .head .ticks ∷ rowNumbers (t .rows)
+    t .head .total ∷ t .head .sum ∷ t .head .resting ∷ t .head .terms .limit ∷ t .head .terms .rule ∷ flagNumber (t .head .out) ∷ t .head .holder ∷ t .head .ticks ∷ rowNumbers (t .rows)
 
 abbrev pub sameNumbers : List ℕ → List ℕ → Bool
 sameNumbers [] [] = true
@@ -119,9 +119,9 @@ holds before r (is-going queue) = isGoing (row (r .table) queue .state)
 holds before r from-sound = sound before
 holds before r only-takes-the-slice-in = sameNumbers (tableNumbers (r .table)) (tableNumbers (withSlice before false 0 0))
 
--- an event, and what is said of it; a fresh table by its slice limit
+-- an event, and what is said of it; a fresh table by its slice limit, of rule 1
 abbrev pub fresh : ℕ → Event
-fresh limit = Fresh (record { limit = limit })
+fresh limit = Fresh (record { limit = limit; rule = 1 })
 
 infix 20 _then_
 pub data Line : Type 0 where

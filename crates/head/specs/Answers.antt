@@ -7,7 +7,7 @@ use Rattle.head.specs.declared.Answer.{Answer}
 use Rattle.head.specs.declared.Answer.the-variants.{Accepted, Granted, Reported, Stands, Refused}
 use Rattle.head.specs.declared.Refusal.{Refusal}
 use Rattle.head.specs.declared.Shown.{Shown}
-use Rattle.head.specs.declared.Refusal.the-variants.{Unsound, QueueOutside, WeightOutside, LengthOutside, SliceOut, NotHolder, RowTaken, NotAsking, LagBelow, TicksOutside, TableEmpty, CeilingPassed, ListShort, LimitOutside, RowFree}
+use Rattle.head.specs.declared.Refusal.the-variants.{Unsound, QueueOutside, WeightOutside, LengthOutside, SliceOut, NotHolder, RowTaken, NotAsking, LagBelow, TicksOutside, TableEmpty, CeilingPassed, ListShort, LimitOutside, RowFree, RuleOutside}
 
 -- the column "No."
 abbrev pub refusalNumber : Refusal → ℕ
@@ -27,6 +27,8 @@ refusalNumber ListShort = 13
 refusalNumber LimitOutside = 14
 -- T-05, "Refusals: 1, 2, then 31 for a free row."
 refusalNumber RowFree = 31
+-- T-06, "another rule number is 23"
+refusalNumber RuleOutside = 23
 
 -- 0 for accepted
 abbrev pub number : Answer → ℕ

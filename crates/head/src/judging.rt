@@ -1,7 +1,7 @@
 // What each event is refused for, in its order: the first refusal that applies answers.
 ghost use mathlib.Core.Path.{_≡_};
 ghost use mathlib.Core.Bool.{true};
-ghost use Rattle.rows.specs.Orderly.{OrderlyRow, limitOutside};
+ghost use Rattle.rows.specs.Orderly.{OrderlyRow, limitOutside, ruleOutside};
 ghost use Rattle.head.specs.declared.Event.the-variants.{Grant, Join, Leave, Length, Reweight};
 ghost use Rattle.head.specs.Answers.{refusalNumber};
 ghost use Rattle.head.specs.Judged as judged;
@@ -43,6 +43,7 @@ impl Refusal {
             Refusal::ListShort => 13,
             Refusal::LimitOutside => 14,
             Refusal::RowFree => 31,
+            Refusal::RuleOutside => 23,
         }
     }
 }
@@ -191,7 +192,9 @@ impl Head {
 fn fresh_verdict(terms: Terms) -> Verdict
     ensures { λ r. ⌜ r ≡ checks.verdictOf (checks.firstOf (checks.freshChecks terms)) ⌝ }
 {
-    Verdict::Fine.or(Refusal::LimitOutside, limit_outside(terms))
+    Verdict::Fine
+        .or(Refusal::LimitOutside, limit_outside(terms))
+        .or(Refusal::RuleOutside, rule_outside(terms))
 }
 
 // What speaks against telling where a row stands.
@@ -243,6 +246,12 @@ pub(crate) fn limit_outside(terms: Terms) -> bool
     ensures { λ r. ⌜ r ≡ limitOutside terms ⌝ }
 {
     outside(terms.limit, 1, rows::MAX_LIMIT)
+}
+
+pub(crate) fn rule_outside(terms: Terms) -> bool
+    ensures { λ r. ⌜ r ≡ ruleOutside terms ⌝ }
+{
+    outside(terms.rule, 1, rows::MAX_RULE)
 }
 
 fn ticks_outside(ticks: u64, used: u64) -> bool

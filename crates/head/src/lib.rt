@@ -45,6 +45,7 @@ pub enum Refusal {
     ListShort,
     LimitOutside,
     RowFree,
+    RuleOutside,
 }
 
 pub enum Answer {

@@ -9,6 +9,7 @@ ghost use Rattle.head.specs.Judged as judged;
 ghost use Rattle.head.specs.Slice as slices;
 use crate::Head;
 use crate::judging::limit_outside;
+use crate::judging::rule_outside;
 use rows::Request;
 use rows::Row;
 use rows::Seen;
@@ -28,7 +29,10 @@ pub struct Survey {
 fn terms_allowed(terms: Terms) -> bool
     ensures { λ r. ⌜ r ≡ orderly.allowed terms ⌝ }
 {
-    !limit_outside(terms)
+    if limit_outside(terms) {
+        return false;
+    }
+    !rule_outside(terms)
 }
 
 // Deadlines are to stay within the ceiling, so that positions do.

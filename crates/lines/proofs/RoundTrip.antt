@@ -1,8 +1,9 @@
 -- Document 01's lines and their events, both ways: an event with numbers of up to five digits, written as a line, reads back as that event;
 -- and a line that reads as an event is the line which that event is written as. So no other bytes are an event.
-use mathlib.Core.Path.{_≡_, refl, sym, ap, _∙_}
+use mathlib.Core.Path.{_≡_, refl, sym, ap, subst, _∙_}
 use mathlib.Core.Bool.{Bool, true, false, cond}
 use mathlib.Core.List.{List, [], _∷_, _++_, append-nil}
+use mathlib.Core.Logic.{_⊎_}
 use mathlib.Core.Option.{Option, none, some}
 use Prim.Native.Nat.{ℕ, suc, _*_, _≤_, _<_}
 use native.Mathlib.Omega.{arith}
@@ -11,12 +12,13 @@ use lib.ListN.{length, length-append}
 use borrow.Author.Tests.{le-leb, leb-true, eqb-true, eqb-false, ne-eqb}
 use Rattle.laws.specs.Lists.{all}
 use Rattle.laws.proofs.Tests.{and-left, and-right}
+use Rattle.rows.specs.declared.Terms.{Terms}
 use Rattle.head.specs.declared.Event.{Event}
 use Rattle.head.specs.declared.Event.the-variants.{Fresh, Join, Leave, Reweight, Length, Grant, Return}
 use Rattle.head.specs.declared.Line.the-variants.{Known, Broken}
 use Rattle.lines.specs.Cut.{space, part, cutAt, before, fieldsOf}
 use Rattle.lines.specs.Decimal.{digit, decimal, digits}
-use Rattle.lines.specs.Grammar.{letterS, letterJ, letterL, letterW, letterR, letterG, letterU, returnOf, eventOf, both, numbers, eventIf, eventNamed, eventIn, readLine, spaced, mark, lineOf, Small, Written}
+use Rattle.lines.specs.Grammar.{letterS, letterJ, letterL, letterW, letterR, letterG, letterU, returnOf, eventOf, both, numbers, eventIf, eventNamed, eventIn, readLine, spaced, mark, lineOf, Small, Written, WrittenAs}
 use Rattle.lines.proofs.Cutting.{Unmarked, cut-unmarked, cut-first}
 use Rattle.lines.proofs.Decimals.{digit-low}
 use Rattle.lines.proofs.Decimal.{all-digits, few-digits, decimal-digits, decimal-only}
@@ -67,16 +69,34 @@ reads k ns c h l =
     let short : length (k ∷ spaced ns) ≤ 40 = omega (arith, spaced-length ns h) in
     rw (le-leb (length (k ∷ spaced ns)) 40 short, cut-spaced (k ∷ []) ns c, numbers-written ns h)
 
-pub reads-back : (e : Event) → Written e → readLine (lineOf e) ≡ Known e
+written-back : (e : Event) → Written e → readLine (lineOf e) ≡ Known e
 unfolding lineOf Written eventOf before
-reads-back (Fresh terms) h = reads letterS (terms .limit ∷ []) refl (h, tt) (omega arith)
-reads-back (Join queue weight length) h = reads letterJ (queue ∷ weight ∷ length ∷ []) refl (small-three h) (omega arith)
-reads-back (Leave queue) h = reads letterL (queue ∷ []) refl (h, tt) (omega arith)
-reads-back (Reweight queue weight length) h = reads letterW (queue ∷ weight ∷ length ∷ []) refl (small-three h) (omega arith)
-reads-back (Length queue length) h = reads letterR (queue ∷ length ∷ []) refl (h .0, (h .1, tt)) (omega arith)
-reads-back Grant h = reads letterG [] refl tt (omega arith)
-reads-back (Return queue used false) h = reads letterU (queue ∷ used ∷ 0 ∷ []) refl (h .0, (h .1, (omega arith, tt))) (omega arith)
-reads-back (Return queue used true) h = reads letterU (queue ∷ used ∷ 1 ∷ []) refl (h .0, (h .1, (omega arith, tt))) (omega arith)
+written-back (Fresh terms) h = reads letterS (terms .limit ∷ terms .rule ∷ []) refl (h .0, (h .1, tt)) (omega arith)
+written-back (Join queue weight length) h = reads letterJ (queue ∷ weight ∷ length ∷ []) refl (small-three h) (omega arith)
+written-back (Leave queue) h = reads letterL (queue ∷ []) refl (h, tt) (omega arith)
+written-back (Reweight queue weight length) h = reads letterW (queue ∷ weight ∷ length ∷ []) refl (small-three h) (omega arith)
+written-back (Length queue length) h = reads letterR (queue ∷ length ∷ []) refl (h .0, (h .1, tt)) (omega arith)
+written-back Grant h = reads letterG [] refl tt (omega arith)
+written-back (Return queue used false) h = reads letterU (queue ∷ used ∷ 0 ∷ []) refl (h .0, (h .1, (omega arith, tt))) (omega arith)
+written-back (Return queue used true) h = reads letterU (queue ∷ used ∷ 1 ∷ []) refl (h .0, (h .1, (omega arith, tt))) (omega arith)
+
+-- a fresh table of rule 1, said without it
+short-back : (terms : Terms) → Small (terms .limit) → terms .rule ≡ 1 → readLine (letterS ∷ spaced (terms .limit ∷ [])) ≡ Known (Fresh terms)
+unfolding eventOf before
+short-back terms h is =
+    reads letterS (terms .limit ∷ []) refl (h, tt) (omega arith) ∙ ap (λ (rule : ℕ). Known (Fresh (record { limit = terms .limit; rule = rule }))) (sym is)
+
+-- every line that says an event reads back as it
+pub reads-back : (e : Event) (l : List ℕ) → Written e → WrittenAs e l → readLine l ≡ Known e
+unfolding Written
+reads-back (Fresh terms) l h (_⊎_.inl is) = rw is (written-back (Fresh terms) h)
+reads-back (Fresh terms) l h (_⊎_.inr is) = rw (is .1) (short-back terms (h .0) (is .0))
+reads-back (Join queue weight length) l h is = rw is (written-back (Join queue weight length) h)
+reads-back (Leave queue) l h is = rw is (written-back (Leave queue) h)
+reads-back (Reweight queue weight length) l h is = rw is (written-back (Reweight queue weight length) h)
+reads-back (Length queue length) l h is = rw is (written-back (Length queue length) h)
+reads-back Grant l h is = rw is (written-back Grant h)
+reads-back (Return queue used early) l h is = rw is (written-back (Return queue used early) h)
 
 -- fields put together again make the line
 abbrev joined : List (List ℕ) → List ℕ
@@ -118,7 +138,7 @@ numbers-only (f ∷ fs) ns h = by (decimal f) refl (numbers fs) (numbers-only fs
 
 -- a letter and its numbers make an event only as the grammar lists them
 abbrev Is : ℕ → List ℕ → Event → Type 0
-Is k ns e = (k ∷ spaced ns ≡ lineOf e) × Written e
+Is k ns e = WrittenAs e (k ∷ spaced ns) × Written e
 
 marked : (c : ℕ) → c ≤ 1 → mark (eqb c 1) ≡ c
 marked c h = by (eqb c 1) refl
@@ -143,14 +163,18 @@ event-only k (a ∷ []) e s h = fresh (eqb k letterS) refl h
     leave true t h = let x : Leave a ≡ e = cc in rw (← x, eqb-true k letterL t) (refl, s .0)
     leave false t h = absurd (never e h)
 
-    fresh : (t : Bool) → eqb k letterS ≡ t → cond t (Known (Fresh (record { limit = a }))) (cond (eqb k letterL) (Known (Leave a)) Broken) ≡ Known e → Is k (a ∷ []) e
-    fresh true t h = let x : Fresh (record { limit = a }) ≡ e = cc in rw (← x, eqb-true k letterS t) (refl, s .0)
+    fresh : (t : Bool) → eqb k letterS ≡ t → cond t (Known (Fresh (record { limit = a; rule = 1 }))) (cond (eqb k letterL) (Known (Leave a)) Broken) ≡ Known e → Is k (a ∷ []) e
+    fresh true t h = let x : Fresh (record { limit = a; rule = 1 }) ≡ e = cc in rw (← x, eqb-true k letterS t) (_⊎_.inr (refl, refl), (s .0, omega arith))
     fresh false t h = leave (eqb k letterL) refl h
-event-only k (a ∷ b ∷ []) e s h = size (eqb k letterR) refl h
+event-only k (a ∷ b ∷ []) e s h = fresh (eqb k letterS) refl h
   where
     size : (t : Bool) → eqb k letterR ≡ t → cond t (Known (Length a b)) Broken ≡ Known e → Is k (a ∷ b ∷ []) e
     size true t h = let x : Length a b ≡ e = cc in rw (← x, eqb-true k letterR t) (refl, (s .0, s .1 .0))
     size false t h = absurd (never e h)
+
+    fresh : (t : Bool) → eqb k letterS ≡ t → cond t (Known (Fresh (record { limit = a; rule = b }))) (cond (eqb k letterR) (Known (Length a b)) Broken) ≡ Known e → Is k (a ∷ b ∷ []) e
+    fresh true t h = let x : Fresh (record { limit = a; rule = b }) ≡ e = cc in rw (← x, eqb-true k letterS t) (_⊎_.inl refl, (s .0, s .1 .0))
+    fresh false t h = size (eqb k letterR) refl h
 event-only k (a ∷ b ∷ c ∷ []) e s h = join (eqb k letterJ) refl h
   where
     early : (t : Bool) → leb c 1 ≡ t → k ≡ letterU → cond t (Known (Return a b (eqb c 1))) Broken ≡ Known e → Is k (a ∷ b ∷ c ∷ []) e
@@ -171,33 +195,33 @@ event-only k (a ∷ b ∷ c ∷ []) e s h = join (eqb k letterJ) refl h
     join false t h = reweight (eqb k letterW) refl h
 event-only k (a ∷ b ∷ c ∷ d ∷ ns) e s h = absurd (never e h)
 
-named-only : (name : List ℕ) (fs : List (List ℕ)) (e : Event) → eventNamed name (numbers fs) ≡ Known e → (name ++ joined fs ≡ lineOf e) × Written e
+named-only : (name : List ℕ) (fs : List (List ℕ)) (e : Event) → eventNamed name (numbers fs) ≡ Known e → WrittenAs e (name ++ joined fs) × Written e
 unfolding eventNamed eventIf
 named-only [] fs e h = absurd (never e h)
 named-only (k ∷ []) fs e h = by (numbers fs) refl h
   where
-    by : (o : Option (List ℕ)) → numbers fs ≡ o → eventIf k o ≡ Known e → (k ∷ joined fs ≡ lineOf e) × Written e
+    by : (o : Option (List ℕ)) → numbers fs ≡ o → eventIf k o ≡ Known e → WrittenAs e (k ∷ joined fs) × Written e
     by none n h = absurd (never e h)
     by (some ns) n h = let p = numbers-only fs ns n in rw (p .0) (event-only k ns e (p .1) h)
 named-only (k ∷ j ∷ name) fs e h = absurd (never e h)
 
-fields-only : (fs : List (List ℕ)) (e : Event) → eventIn fs ≡ Known e → (whole fs ≡ lineOf e) × Written e
+fields-only : (fs : List (List ℕ)) (e : Event) → eventIn fs ≡ Known e → WrittenAs e (whole fs) × Written e
 unfolding eventIn
 fields-only [] e h = absurd (never e h)
 fields-only (name ∷ fs) e h = named-only name fs e h
 
-pub only-lines : (l : List ℕ) (e : Event) → readLine l ≡ Known e → (l ≡ lineOf e) × Written e
+pub only-lines : (l : List ℕ) (e : Event) → readLine l ≡ Known e → WrittenAs e l × Written e
 unfolding readLine
 only-lines l e h = by (leb (length l) 40) h
   where
-    by : (t : Bool) → cond t (eventIn (fieldsOf l)) Broken ≡ Known e → (l ≡ lineOf e) × Written e
-    by true h = rw whole-cut at (fields-only (fieldsOf l) e h)
+    by : (t : Bool) → cond t (eventIn (fieldsOf l)) Broken ≡ Known e → WrittenAs e l × Written e
+    by true h = subst (λ (x : List ℕ). WrittenAs e x × Written e) (whole-cut l) (fields-only (fieldsOf l) e h)
     by false h = absurd (never e h)
 
 -- no line of an event is longer than 40 bytes: the longest that reads at all has 19
 pub lines-short : (e : Event) → Written e → length (lineOf e) ≤ 19
 unfolding lineOf Written
-lines-short (Fresh terms) h = omega (arith, spaced-length (terms .limit ∷ []) (h, tt))
+lines-short (Fresh terms) h = omega (arith, spaced-length (terms .limit ∷ terms .rule ∷ []) (h .0, (h .1, tt)))
 lines-short (Join queue weight size) h = omega (arith, spaced-length (queue ∷ weight ∷ size ∷ []) (small-three h))
 lines-short (Leave queue) h = omega (arith, spaced-length (queue ∷ []) (h, tt))
 lines-short (Reweight queue weight size) h = omega (arith, spaced-length (queue ∷ weight ∷ size ∷ []) (small-three h))

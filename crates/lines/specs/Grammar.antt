@@ -1,7 +1,9 @@
 -- The lines of bandtrace: which event a line of bytes is, and the line that an event is written as.
 use mathlib.Core.Bool.{Bool, true, false, cond}
 use mathlib.Core.List.{List, [], _∷_, _++_}
+use mathlib.Core.Logic.{_⊎_}
 use mathlib.Core.Option.{Option, none, some}
+use mathlib.Core.Path.{_≡_}
 use Prim.Native.Nat.{ℕ, _<_}
 use lib.Dec.{leb, eqb}
 use lib.ListN.{length}
@@ -38,11 +40,13 @@ letterU = 85
 abbrev pub returnOf : ℕ → ℕ → ℕ → Line
 returnOf queue used early = cond (leb early 1) (Known (Return queue used (eqb early 1))) Broken
 
--- "`S limit`, `J number weight length`, `L number`, `W number weight length`, `R number length`, `G`, `U number used early`"
+-- "`S limit`, `J number weight length`, `L number`, `W number weight length`, `R number length`, `G`, `U number used early`";
+-- T-06, "`S` takes an optional second number and means rule 1 without it"
 unfoldable pub eventOf : ℕ → List ℕ → Line
 eventOf letter [] = cond (eqb letter letterG) (Known Grant) Broken
-eventOf letter (a ∷ []) = cond (eqb letter letterS) (Known (Fresh (record { limit = a }))) (cond (eqb letter letterL) (Known (Leave a)) Broken)
-eventOf letter (a ∷ b ∷ []) = cond (eqb letter letterR) (Known (Length a b)) Broken
+eventOf letter (a ∷ []) = cond (eqb letter letterS) (Known (Fresh (record { limit = a; rule = 1 }))) (cond (eqb letter letterL) (Known (Leave a)) Broken)
+eventOf letter (a ∷ b ∷ []) =
+    cond (eqb letter letterS) (Known (Fresh (record { limit = a; rule = b }))) (cond (eqb letter letterR) (Known (Length a b)) Broken)
 eventOf letter (a ∷ b ∷ c ∷ []) =
     cond (eqb letter letterJ) (Known (Join a b c))
     (cond (eqb letter letterW) (Known (Reweight a b c)) (cond (eqb letter letterU) (returnOf a b c) Broken))
@@ -86,7 +90,7 @@ mark true = 1
 mark false = 0
 
 unfoldable pub lineOf : Event → List ℕ
-lineOf (Fresh terms) = letterS ∷ spaced (terms .limit ∷ [])
+lineOf (Fresh terms) = letterS ∷ spaced (terms .limit ∷ terms .rule ∷ [])
 lineOf (Join queue weight length) = letterJ ∷ spaced (queue ∷ weight ∷ length ∷ [])
 lineOf (Leave queue) = letterL ∷ spaced (queue ∷ [])
 lineOf (Reweight queue weight length) = letterW ∷ spaced (queue ∷ weight ∷ length ∷ [])
@@ -99,10 +103,20 @@ abbrev pub Small : ℕ → Type 0
 Small n = n < 100000
 
 unfoldable pub Written : Event → Type 0
-Written (Fresh terms) = Small (terms .limit)
+Written (Fresh terms) = Small (terms .limit) × Small (terms .rule)
 Written (Join queue weight length) = Small queue × Small weight × Small length
 Written (Leave queue) = Small queue
 Written (Reweight queue weight length) = Small queue × Small weight × Small length
 Written (Length queue length) = Small queue × Small length
 Written Grant = Unit {0}
 Written (Return queue used early) = Small queue × Small used
+
+-- the lines that say an event: a fresh table of rule 1 may be said without it
+abbrev pub WrittenAs : Event → List ℕ → Type 0
+WrittenAs (Fresh terms) l = (l ≡ lineOf (Fresh terms)) ⊎ ((terms .rule ≡ 1) × (l ≡ letterS ∷ spaced (terms .limit ∷ [])))
+WrittenAs (Join queue weight length) l = l ≡ lineOf (Join queue weight length)
+WrittenAs (Leave queue) l = l ≡ lineOf (Leave queue)
+WrittenAs (Reweight queue weight length) l = l ≡ lineOf (Reweight queue weight length)
+WrittenAs (Length queue length) l = l ≡ lineOf (Length queue length)
+WrittenAs Grant l = l ≡ lineOf Grant
+WrittenAs (Return queue used early) l = l ≡ lineOf (Return queue used early)

@@ -122,7 +122,7 @@ fn with_one(letter: u8, a: u64) -> Line
 {
     if letter == b'S' {
         return Line::Known(Event::Fresh {
-            terms: Terms { limit: a },
+            terms: Terms { limit: a, rule: 1 },
         });
     }
     if letter == b'L' {
@@ -134,6 +134,11 @@ fn with_one(letter: u8, a: u64) -> Line
 fn with_two(letter: u8, a: u64, b: u64) -> Line
     ensures { λ r. ⌜ r ≡ eventOf letter (a ∷ b ∷ []) ⌝ }
 {
+    if letter == b'S' {
+        return Line::Known(Event::Fresh {
+            terms: Terms { limit: a, rule: b },
+        });
+    }
     if letter == b'R' {
         return Line::Known(Event::Length {
             queue: a,

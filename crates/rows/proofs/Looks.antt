@@ -58,7 +58,7 @@ module _ (terms : Terms) (total sum : ℕ) (s : Seen) (at : ℕ) (q : Request) (
   unfolding seenAsking
   asking-disorderly h = let test : ranges ≡ false = rest-fails _ _ (first-fails _ _ h) in rw test refl
 
-  pub asking-fine : inRange weight position ≡ true → orderlyRequest weight position q ≡ true → seenBidding terms total sum (counting s weight position) at q (q .opening) weight ≡ seenAsking terms total sum s at q weight position
+  pub asking-fine : inRange weight position ≡ true → orderlyRequest weight position q ≡ true → seenBidding terms total sum (counting s weight position) at q (q .opening) weight position ≡ seenAsking terms total sum s at q weight position
   unfolding seenAsking
   asking-fine h l = let test : ranges ≡ true = each-every _ (h, (l, tt)) in rw test refl
 

@@ -13,8 +13,8 @@ use Rattle.rows.specs.declared.Row.{Row}
 use Rattle.rows.specs.declared.State.{State}
 use Rattle.rows.specs.declared.State.the-variants.{Free, Going, Asking}
 use Rattle.rows.specs.declared.Terms.{Terms}
-use Rattle.rows.specs.Numbers.{maxLimit}
-use Rattle.rows.specs.Orderly.{outside, InRange, inRange, OrderlyRequest, orderlyRequest, OrderlyAs, orderlyAs, OrderlyRow, orderlyRow, FitsCeiling, fitsCeiling, Allowed, limitOutside, allowed}
+use Rattle.rows.specs.Numbers.{maxLimit, maxRule}
+use Rattle.rows.specs.Orderly.{outside, InRange, inRange, OrderlyRequest, orderlyRequest, OrderlyAs, orderlyAs, OrderlyRow, orderlyRow, FitsCeiling, fitsCeiling, Allowed, limitOutside, ruleOutside, allowed}
 
 -- a number is outside exactly when it is below or above the bounds
 module _ (low high n : ℕ) where
@@ -105,12 +105,23 @@ pub within-limit : (terms : Terms) → 1 ≤ terms .limit → terms .limit ≤ m
 unfolding limitOutside
 within-limit terms low high = inside-not 1 maxLimit (terms .limit) low high
 
+pub rule-within : (terms : Terms) → ruleOutside terms ≡ false → (1 ≤ terms .rule) × (terms .rule ≤ maxRule)
+unfolding ruleOutside
+rule-within terms e = (within-low 1 maxRule (terms .rule) e, within-high 1 maxRule (terms .rule) e)
+
+pub within-rule : (terms : Terms) → 1 ≤ terms .rule → terms .rule ≤ maxRule → ruleOutside terms ≡ false
+unfolding ruleOutside
+within-rule terms low high = inside-not 1 maxRule (terms .rule) low high
+
 pub allowed-says : (terms : Terms) → allowed terms ≡ true → Allowed terms
 unfolding allowed
 allowed-says terms e =
-    let limit = limit-within terms (not-true _ (every-each _ e .0)) in
-    record { limit-low = limit .0; limit-high = limit .1 }
+    let tests = every-each _ e in
+    let limit = limit-within terms (not-true _ (tests .0)) in
+    let rule = rule-within terms (not-true _ (tests .1 .0)) in
+    record { limit-low = limit .0; limit-high = limit .1; rule-low = rule .0; rule-high = rule .1 }
 
 pub says-allowed : (terms : Terms) → Allowed terms → allowed terms ≡ true
 unfolding allowed
-says-allowed terms h = each-every _ (ap not (within-limit terms (h .limit-low) (h .limit-high)), tt)
+says-allowed terms h =
+    each-every _ (ap not (within-limit terms (h .limit-low) (h .limit-high)), (ap not (within-rule terms (h .rule-low) (h .rule-high)), tt))

@@ -23,7 +23,7 @@ beyond = ceiling + 1
 
 -- nothing seen yet
 abbrev pub unseen : Seen
-unseen = record { faults = 0; weights = 0; moments = 0; nearest = beyond; queue = queues; bid = record { deadline = 0 } }
+unseen = record { faults = 0; weights = 0; moments = 0; nearest = beyond; queue = queues; bid = record { deadline = 0; position = 0 } }
 
 -- a table that weighs more than its rows can is not walked over
 abbrev pub firstRow : ℕ → ℕ
@@ -72,13 +72,13 @@ unfoldable pub seenGoing : ℕ → ℕ → Seen → ℕ → ℕ → Seen
 seenGoing total sum s weight position =
     cond (every (orderlyAs Going weight position ∷ not (reached position total sum) ∷ [])) (passing (counting s weight position) position) (faulted s)
 
-unfoldable pub seenBidding : Terms → ℕ → ℕ → Seen → ℕ → Request → ℕ → ℕ → Seen
-seenBidding terms total sum s at q from weight = cond (reached from total sum) (bidding terms s at (bidOf weight q)) s
+unfoldable pub seenBidding : Terms → ℕ → ℕ → Seen → ℕ → Request → ℕ → ℕ → ℕ → Seen
+seenBidding terms total sum s at q from weight position = cond (reached from total sum) (bidding terms s at (bidOf weight position q)) s
 
 unfoldable pub seenAsking : Terms → ℕ → ℕ → Seen → ℕ → Request → ℕ → ℕ → Seen
 seenAsking terms total sum s at q weight position =
     cond (orderlyAs (Asking q) weight position)
-    (seenBidding terms total sum (counting s weight position) at q (q .opening) weight)
+    (seenBidding terms total sum (counting s weight position) at q (q .opening) weight position)
     (faulted s)
 
 abbrev pub seenAs : Terms → ℕ → ℕ → Seen → ℕ → State → ℕ → ℕ → Seen

@@ -33,9 +33,13 @@ lengthMeant default length = cond (eqb length 0) default length
 abbrev pub maxLimit : ℕ
 maxLimit = 100
 
+-- T-06, "A fresh table is made for rule 1 or 2"
+abbrev pub maxRule : ℕ
+maxRule = 2
+
 -- what the table of a refused fresh is made with
 abbrev pub leastTerms : Terms
-leastTerms = record { limit = 1 }
+leastTerms = record { limit = 1; rule = 1 }
 
 -- the default length of a table made with these terms
 unfoldable pub defaultOf : Terms → ℕ

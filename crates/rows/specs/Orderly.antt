@@ -11,7 +11,7 @@ use Rattle.rows.specs.declared.Row.{Row}
 use Rattle.rows.specs.declared.State.{State}
 use Rattle.rows.specs.declared.State.the-variants.{Free, Going, Asking}
 use Rattle.rows.specs.declared.Terms.{Terms}
-use Rattle.rows.specs.Numbers.{maxWeight, maxLength, maxLimit, ceiling}
+use Rattle.rows.specs.Numbers.{maxWeight, maxLength, maxLimit, maxRule, ceiling}
 use Rattle.rows.specs.Row.{positionOf, deadlineOf}
 
 -- outside a range, its ends belonging to it
@@ -82,9 +82,15 @@ sliceLeast terms q = sliceMost terms q
 pub record Allowed (terms : Terms) : Type 0 where
   pub limit-low : 1 ≤ terms .limit
   pub limit-high : terms .limit ≤ maxLimit
+  -- T-06, "rule 1 or 2"
+  pub rule-low : 1 ≤ terms .rule
+  pub rule-high : terms .rule ≤ maxRule
 
 unfoldable pub limitOutside : Terms → Bool
 limitOutside terms = outside 1 maxLimit (terms .limit)
 
+unfoldable pub ruleOutside : Terms → Bool
+ruleOutside terms = outside 1 maxRule (terms .rule)
+
 unfoldable pub allowed : Terms → Bool
-allowed terms = every (not (limitOutside terms) ∷ [])
+allowed terms = every (not (limitOutside terms) ∷ not (ruleOutside terms) ∷ [])

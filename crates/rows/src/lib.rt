@@ -47,6 +47,9 @@ pub const DEFAULT_LENGTH: u64 = 20;
 
 pub const MAX_LIMIT: u64 = 100;
 
+// The rules for ties: 1 to the lower number, 2 to the lesser position first.
+pub const MAX_RULE: u64 = 2;
+
 pub const CEILING: u64 = 281_474_976_710_656;
 
 // Position units to one unit of virtual time: the least common multiple of 1 to 16.
@@ -55,6 +58,7 @@ pub const UNIT: u64 = 720_720;
 // What a table is made with.
 pub struct Terms {
     pub limit: u64,
+    pub rule: u64,
 }
 
 // An open request: where it opened, its length, the ticks served of it, and the length of the one after it.

@@ -22,6 +22,7 @@ const BEYOND: u64 = crate::CEILING + 1;
 // What a request asks for the engine with.
 pub struct Bid {
     pub deadline: u64,
+    pub position: u64,
 }
 
 // What the rows so far come to: their parts in W and A, a position that no going row among them stands before, and of those that may be served the
@@ -41,14 +42,24 @@ pub const UNSEEN: Seen = Seen {
     moments: 0,
     nearest: BEYOND,
     queue: crate::QUEUES,
-    bid: Bid { deadline: 0 },
+    bid: Bid {
+        deadline: 0,
+        position: 0,
+    },
 };
 
-// Whether a bid goes before another; of two that neither does, the lower number is the first.
+// Whether a bid goes before another: by its deadline, and under rule 2 of equal deadlines by its position. Of two that neither does, the lower number is
+// the first.
 pub fn goes_before(terms: Terms, bid: Bid, other: Bid) -> bool
     ensures { λ r. ⌜ r ≡ order.goesBefore terms bid other ⌝ }
 {
-    bid.deadline < other.deadline
+    if terms.rule != 2 {
+        return bid.deadline < other.deadline;
+    }
+    if bid.deadline != other.deadline {
+        return bid.deadline < other.deadline;
+    }
+    bid.position < other.position
 }
 
 // Where the walk begins. A table that weighs more than 64 rows can is not walked over, so that no product overflows: nothing seen, it does not pass.
@@ -165,16 +176,18 @@ fn seen_bidding(
     q: Request,
     from: u64,
     weight: u64,
+    position: u64,
     total: u64,
     sum: u64,
     terms: Terms,
 ) -> Seen
     requires { ⌜ fits.Bidding q from total ⌝ }
-    ensures { λ r. ⌜ r ≡ looks.seenBidding terms total sum seen at q from weight ⌝ }
+    ensures { λ r. ⌜ r ≡ looks.seenBidding terms total sum seen at q from weight position ⌝ }
 {
     if reached(from, total, sum) {
         let bid = Bid {
             deadline: q.deadline(weight),
+            position,
         };
         return bidding(seen, at, bid, terms);
     }
@@ -201,7 +214,17 @@ fn seen_asking(
         return faulted(seen);
     }
     let counted = counting(seen, weight, position);
-    seen_bidding(counted, at, q, q.opening, weight, total, sum, terms)
+    seen_bidding(
+        counted,
+        at,
+        q,
+        q.opening,
+        weight,
+        position,
+        total,
+        sum,
+        terms,
+    )
 }
 
 pub fn seen_after(seen: Seen, at: u64, row: Row, total: u64, sum: u64, terms: Terms) -> Seen

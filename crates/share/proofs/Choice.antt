@@ -14,7 +14,7 @@ use Rattle.rows.specs.declared.Row.{Row}
 use Rattle.rows.specs.Row.{blank}
 use Rattle.rows.specs.Virtual.{eligibleAt}
 use Rattle.rows.specs.Order.{bid}
-use Rattle.rows.proofs.Order.{before-irrefl, before-trans, before-between}
+use Rattle.rows.proofs.Order.{strict}
 use Rattle.share.specs.declared.Table.{Table}
 use Rattle.share.specs.Table.{row}
 use Rattle.share.specs.Choice.{eligible, precedes, Chosen, better, chooseFrom, choice}
@@ -23,15 +23,15 @@ use Rattle.share.proofs.Sound.{row-past}
 -- the order's three laws, of rows
 precedes-irrefl : (t : Table) (a : Row) → precedes t a a ≡ true → ⊥
 unfolding precedes
-precedes-irrefl t a = before-irrefl (t .head .terms) (bid a)
+precedes-irrefl t a = strict (t .head .terms) .irrefl (bid a)
 
 precedes-trans : (t : Table) (a b c : Row) → precedes t a b ≡ true → precedes t b c ≡ true → precedes t a c ≡ true
 unfolding precedes
-precedes-trans t a b c = before-trans (t .head .terms) (bid a) (bid b) (bid c)
+precedes-trans t a b c = strict (t .head .terms) .trans (bid a) (bid b) (bid c)
 
 precedes-between : (t : Table) (a b c : Row) → precedes t a c ≡ true → precedes t a b ≡ false → precedes t b c ≡ true
 unfolding precedes
-precedes-between t a b c = before-between (t .head .terms) (bid a) (bid b) (bid c)
+precedes-between t a b c = strict (t .head .terms) .between (bid a) (bid b) (bid c)
 
 and-true : (a : Bool) → a && true ≡ false → a ≡ false
 and-true true e = e

@@ -43,8 +43,8 @@ record Good (terms : Terms) (total sum : ℕ) (s : Seen) (at : ℕ) (state : Sta
   moment-high : cond (isFree state) 0 (w * p) ≤ maxWeight * ceiling
   nearest-less : after .nearest ≤ s .nearest
   nearest-is : isGoing state ≡ true → after .nearest ≤ p
-  takes : (eligibleAs total sum state && leads terms s (bidAs state w)) ≡ true → (after .queue ≡ at) × (after .bid ≡ bidAs state w)
-  stays : (eligibleAs total sum state && leads terms s (bidAs state w)) ≡ false → (after .queue ≡ s .queue) × (after .bid ≡ s .bid)
+  takes : (eligibleAs total sum state && leads terms s (bidAs state w p)) ≡ true → (after .queue ≡ at) × (after .bid ≡ bidAs state w p)
+  stays : (eligibleAs total sum state && leads terms s (bidAs state w p)) ≡ false → (after .queue ≡ s .queue) × (after .bid ≡ s .bid)
 
 -- one row looked at: it is fine, or it is not and a fault is noted
 Says : (terms : Terms) (total sum : ℕ) (s : Seen) (at : ℕ) (state : State) (w p : ℕ) → Seen → Type 0
@@ -58,7 +58,7 @@ says-by terms total sum s at state w p false good g f = _⊎_.inr (refl, f refl)
 
 -- an asking row that bids, or does not
 module _ (terms : Terms) (total sum : ℕ) (s : Seen) (at : ℕ) (w p : ℕ) (q : Rattle.rows.specs.declared.Request.Request) (h : OrderlyAs (Asking q) w p) where
-  asks : (e l : Bool) → reached (q .opening) total sum ≡ e → leads terms s (bidAs (Asking q) w) ≡ l → Good terms total sum s at (Asking q) w p (cond e (cond l (record { faults = s .faults; weights = s .weights + w; moments = s .moments + w * p; nearest = s .nearest; queue = at; bid = bidAs (Asking q) w }) (counting s w p)) (counting s w p))
+  asks : (e l : Bool) → reached (q .opening) total sum ≡ e → leads terms s (bidAs (Asking q) w p) ≡ l → Good terms total sum s at (Asking q) w p (cond e (cond l (record { faults = s .faults; weights = s .weights + w; moments = s .moments + w * p; nearest = s .nearest; queue = at; bid = bidAs (Asking q) w p }) (counting s w p)) (counting s w p))
   asks true true e l =
       record {
         orderly = h;
@@ -139,8 +139,8 @@ look-says terms total sum s at Going w p =
     })
     (λ e o a. clash (each-every _ (as-orderly Going w p o, (ap not (a refl), tt))) e)
 look-says terms total sum s at (Asking q) w p =
-    says-by terms total sum s at (Asking q) w p (orderlyAs (Asking q) w p) (seenBidding terms total sum (counting s w p) at q (q .opening) w)
-    (λ e. asks terms total sum s at w p q (orderly-as (Asking q) w p e) (reached (q .opening) total sum) (leads terms s (bidAs (Asking q) w)) refl refl)
+    says-by terms total sum s at (Asking q) w p (orderlyAs (Asking q) w p) (seenBidding terms total sum (counting s w p) at q (q .opening) w p)
+    (λ e. asks terms total sum s at w p q (orderly-as (Asking q) w p e) (reached (q .opening) total sum) (leads terms s (bidAs (Asking q) w p)) refl refl)
     (λ e o a. clash (as-orderly (Asking q) w p o) e)
 
 -- the row at i, and those after it
@@ -155,7 +155,7 @@ leads-better t s r best = ⊎-elim (λ past. rw (le-ltb (s .queue) queues past) 
 
 module _ (t : Table) (i : ℕ) (s after : Seen) (below : i < queues) (inside : i < length (t .rows)) (old : Passed t i s) (good : Good (t .head .terms) (t .head .total) (t .head .sum) s i (row t i .state) (row t i .weight) (row t i .position) after) where
   abbrev ahead-of-all : Bool
-  ahead-of-all = eligibleAs (t .head .total) (t .head .sum) (row t i .state) && leads (t .head .terms) s (bidAs (row t i .state) (row t i .weight))
+  ahead-of-all = eligibleAs (t .head .total) (t .head .sum) (row t i .state) && leads (t .head .terms) s (bidAs (row t i .state) (row t i .weight) (row t i .position))
 
   -- whether the row takes the best one's place
   same-test : ahead-of-all ≡ (eligible t (row t i) && better t (row t i) (bestOf s))

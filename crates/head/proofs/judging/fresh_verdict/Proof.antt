@@ -11,12 +11,22 @@ limit-outside-requires c κs = search needs
 or-requires : tie.Need-or-requires
 or-requires c κs = search needs
 
+rule-outside-requires : tie.Need-rule-outside-requires
+rule-outside-requires c κs = search needs
+
+or-requires-2 : tie.Need-or-requires-2
+or-requires-2 c κs = search needs
+
 returns : tie.Need-returns
 returns c =
-    let at-limit-outside = c .before in
+    let at-rule-outside = c .before in
+    let after-or = at-rule-outside .before in
+    let at-limit-outside = after-or .before in
     let a = at-limit-outside .before .args in
-    rw (c .or .ensures, at-limit-outside .limit-outside .ensures)
+    rw (c .or2 .ensures, at-rule-outside .rule-outside .ensures, after-or .or .ensures, at-limit-outside .limit-outside .ensures)
     (judge-first (freshChecks (a .terms)))
 
 pub fresh-verdict-spec : {M : Type 1} → statement M
-fresh-verdict-spec = tie.close (tie.spec limit-outside-requires or-requires returns)
+fresh-verdict-spec =
+    tie.close
+    (tie.spec limit-outside-requires or-requires rule-outside-requires or-requires-2 returns)
