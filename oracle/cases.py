@@ -1,10 +1,10 @@
 #!/usr/bin/env python3
-"""Document 01's bench cases B1 to B11, and T-02's B12, put to the oracle.
+"""Document 01's bench cases B1 to B11, T-02's B12 and T-09's B13, put to the oracle.
 
     python3 oracle/cases.py
 
-The numbers on the right-hand side are copied from document 01; those of B12,
-which no document gives, were worked out by hand from T-02. B10 lies too far up
+The numbers on the right-hand side are copied from document 01; those of B12 and
+B13, which no document gives, were worked out by hand from T-02 and T-09. B10 lies too far up
 for a short run, so its table is set up by hand; the others are runs.
 """
 
@@ -126,6 +126,14 @@ def cases():
     yield "B11 answer", answer(taken_in), 0
     yield "B11 no slice out", holder(taken_in), None
     yield "B11 nothing else changes", state(taken_in), state(granted)
+    opened = ["S 100", "J 3 2 0", "R 3 5", "G"]
+    used = opened + ["U 3 8 0", "R 3 0", "G"]
+    yield "B13 a length of 0 is 8", play(opened)[0].ticks, 8
+    yield "B13 the next by name", play(used)[0].ticks, 5
+    yield "B13 then 0 again", play(used + ["U 3 5 0", "G"])[0].ticks, 8
+    yield "B13 default 9", answer(["S 100 1 9"]), 25
+    yield "B13 rule 3 first", answer(["S 100 3 9"]), 23
+    yield "B13 in a 20-tick table", play(["S 100 1 20", "J 3 2 7", "W 3 1 0", "G"])[0].ticks, 20
     yield "B12 V where the table rests", virtual(B12[:5]), 360_360
     yield "B12 nobody is there", answer(B12[:6]), 11
     yield "B12 queue 4 opens at", play(B12[:7])[0].present[4].opening, 360_360

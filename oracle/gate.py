@@ -25,7 +25,7 @@ from cases import EXAMPLE
 
 LINES = 1500
 SEED = 38                           # of report 96-038; any would do
-MET_IN_A_RUN = {0, *range(2, 12), 14, 15, 23}
+MET_IN_A_RUN = {0, *range(2, 12), 14, 15, 23, 25}
 
 # A line, then the answer that document 01 gives it. The table is the one that
 # the line before leaves behind.
@@ -45,28 +45,34 @@ G=11 L 0=8 R 0 1=8 W 0 1 1=8 U 0 0 0=6 U 63 0 1=6
 J 64 1 1=2 L 64=2 W 64 1 1=2 R 64 1=2 U 64 0 0=2 J 99999 99999 99999=2
 J 0 0 1=3 J 63 17 10001=3 W 0 0 1=3 W 0 17 10001=3 W 63 99999 0=3
 J 0 1 10001=4 W 0 16 10001=4 R 0 10001=4 R 63 99999=4
-J 0 8 0=0 J 63 16 10000=0 J 1 1 1=0 J 0 8 1=7 J 63 1 0=7
+J 0 8 20=0 J 63 16 10000=0 J 1 1 1=0 J 0 8 1=7 J 63 1 0=7
 U 0 1 0=6 L 2=8 R 2 1=8 W 2 1 1=8
 G=0 G=5 J 0 1 1=5 J 2 1 1=5 L 0=5 L 2=5 W 0 1 1=5 W 2 1 1=5 R 0 1=5 R 2 0=5
 J 64 1 1=2 J 2 0 1=3 J 2 1 10001=4 W 0 17 1=3 W 0 1 10001=4 R 0 10001=4 L 64=2
 U 1 0 0=0 G=0 U 0 11 0=6 U 2 0 1=6 U 64 11 0=2 U 1 2 0=10 U 1 99999 1=10 U 1 1 0=0
-W 1 2 3=9 W 1 0 3=3 W 1 2 10001=4 R 1 0=0 R 63 1=0
+W 1 2 3=9 W 1 0 3=3 W 1 2 10001=4 R 1 20=0 R 63 1=0
 S 0=14 G=0 S 101=14 U 0 11 0=10 U 0 10 1=0
 L 0=0 J 0 1 1=7 L 0=8 W 0 1 1=8 R 0 0=8 G=0 U 63 10 0=0
 """
 
-# The house default of 20 ticks, in all three calls that have a length.
+# The house default of 8 ticks, in all three calls that have a length, and then the
+# same in a table made for 20 (T-09).
 DEFAULTS = """\
-S 100=0 J 5 1 0=0 G=0 U 5 21 0=10 U 5 20 0=0
+S 100=0 J 5 1 0=0 G=0 U 5 9 0=10 U 5 8 0=0
+W 5 2 3=0 R 5 0=0 G=0 U 5 4 0=10 U 5 3 0=0 G=0 U 5 9 0=10 U 5 8 0=0
+W 5 2 0=0 G=0 U 5 9 0=10 U 5 7 0=0 G=0 U 5 2 0=10 U 5 1 0=0
+S 100 2 20=0 S 100 1 9=25 S 100 2 0=25 S 100 1 99999=25 S 100 3 9=23 S 0 3 9=14 S 7 0 8=23 S 101 1 8=14
+J 5 1 0=0 G=0 U 5 21 0=10 U 5 20 0=0
 W 5 2 3=0 R 5 0=0 G=0 U 5 4 0=10 U 5 3 0=0 G=0 U 5 21 0=10 U 5 20 0=0
 W 5 2 0=0 G=0 U 5 21 0=10 U 5 19 0=0 G=0 U 5 2 0=10 U 5 1 0=0
+S 100 1 8=0 J 5 1 0=0 G=0 U 5 9 0=10 U 5 8 0=0
 """
 
 # Reweights of a lone queue: the table empties in between and goes on from where
 # it rests. In the third row the queue leaves a going one behind, which is released,
 # so this table empties too.
 LONE = """\
-S 5=0 J 7 3 4=0 G=0 U 7 4 0=0 W 7 5 2=0 G=0 U 7 1 0=0 W 7 16 0=0 G=0 U 7 5 1=0
+S 5=0 J 7 3 4=0 G=0 U 7 4 0=0 W 7 5 2=0 G=0 U 7 1 0=0 W 7 16 20=0 G=0 U 7 5 1=0
 L 7=0 G=11 J 7 1 1=0 W 7 1 1=0 L 7=0 L 7=8
 J 0 2 1=0 J 1 2 1=0 G=0 U 0 1 0=0 L 0=0 W 1 3 2=0 G=0 U 1 2 0=0
 """

@@ -91,10 +91,11 @@ NAMES = [*KINDS, MIXED]
 # Fields at and beside every border of document 01.
 EDGE_NUMBERS = (0, 1, 2, 62, 63, 64, 65, 127, 255, 256, 65_536, 99_999)
 EDGE_WEIGHTS = (0, 1, 2, 15, 16, 17, 32, 256, 65_537, 99_999)
-EDGE_LENGTHS = (0, 1, 2, 19, 20, 9_999, 10_000, 10_001, 65_536, 99_999)
+EDGE_LENGTHS = (0, 1, 2, 7, 8, 9, 19, 20, 9_999, 10_000, 10_001, 65_536, 99_999)
 EDGE_TICKS = (0, 1, 2, 99, 100, 101, 10_000, 65_536, 99_999)
 EDGE_LIMITS = (0, 101, 102, 256, 65_537, 99_999)
 EDGE_RULES = (0, 3, 4, 255, 256, 99_999)
+EDGE_DEFAULTS = (0, 1, 7, 9, 19, 21, 255, 264, 99_999)
 
 
 class Run:
@@ -147,15 +148,16 @@ def length(run):
     return run.dice.between(shortest, longest)
 
 
-def rule(run):
-    """The rule for ties: none named, which is rule 1, or one of the two."""
-    return run.dice.pick(((), (1,), (2,), (2,)))
+def terms(run):
+    """The rule for ties and the default length: none named, which is rule 1 and 8,
+    the rule alone, or both."""
+    return run.dice.pick(((), (1,), (2,), (1, 8), (2, 8), (1, 20), (2, 20)))
 
 
 def fresh_line(run):
     if run.dice.chance(0.3):
-        return text(b"S", run.dice.pick((1, 2, 99, 100)), *rule(run))
-    return text(b"S", run.dice.between(*run.kind.limits), *rule(run))
+        return text(b"S", run.dice.pick((1, 2, 99, 100)), *terms(run))
+    return text(b"S", run.dice.between(*run.kind.limits), *terms(run))
 
 
 def join_line(run):
@@ -262,7 +264,10 @@ def wild_line(run):
 
 def refused_fresh(run):
     if run.dice.chance(0.5):
-        return text(b"S", run.dice.pick((1, 7, 100, 101)), run.dice.pick(EDGE_RULES))
+        rule = run.dice.pick((1, 2) + EDGE_RULES)
+        if rule in (1, 2) or run.dice.chance(0.5):
+            return text(b"S", run.dice.pick((1, 7, 100, 101)), rule, run.dice.pick(EDGE_DEFAULTS))
+        return text(b"S", run.dice.pick((1, 7, 100, 101)), rule)
     return text(b"S", run.dice.pick(EDGE_LIMITS))
 
 

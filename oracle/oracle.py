@@ -24,7 +24,7 @@ CEILING = 2 ** 48           # P
 HIGHEST_NUMBER = 63
 HEAVIEST = 16
 LONGEST_LENGTH = 10_000
-DEFAULT_LENGTH = 20         # what a length of 0 stands for
+DEFAULTS = (8, 20)          # what a length of 0 may stand for; 8 where none is named (T-09)
 LARGEST_LIMIT = 100
 
 HEADER = "line answer who slice sum total"
@@ -50,11 +50,12 @@ class Queue:
 class Table:
     """The rows that are not free, with W, V and the slice that is out."""
 
-    __slots__ = ("limit", "rule", "present", "total", "virtual", "holder", "ticks")
+    __slots__ = ("limit", "rule", "default", "present", "total", "virtual", "holder", "ticks")
 
-    def __init__(self, limit, rule):
+    def __init__(self, limit, rule, default):
         self.limit = limit
         self.rule = rule            # for ties (T-06)
+        self.default = default      # the length that 0 stands for
         self.present = {}           # queue number -> Queue
         self.total = 0              # W
         self.virtual = Fraction(0)  # V, which an empty table keeps (T-02)
@@ -139,7 +140,7 @@ def join(table, number, weight, length):
         return 5
     if number in table.present:
         return 7
-    enter(table, number, weight, length or DEFAULT_LENGTH)
+    enter(table, number, weight, length or table.default)
     release(table)
     return 0
 
@@ -180,7 +181,7 @@ def reweight(table, number, weight, length):
         return 9
     free(table, number)             # the leave, with its release
     release(table)
-    enter(table, number, weight, length or DEFAULT_LENGTH)
+    enter(table, number, weight, length or table.default)
     release(table)                  # the join, with its release
     return 0
 
@@ -194,7 +195,7 @@ def set_length(table, number, length):
         return 5
     if not is_asking(table, number):
         return 8
-    table.present[number].next_length = length or DEFAULT_LENGTH
+    table.present[number].next_length = length or table.default
     return 0
 
 
@@ -250,7 +251,7 @@ def take_back(table, number, used, early):
 
 NUMBER = rb" (0|[1-9][0-9]{0,4})"
 GRAMMAR = {
-    b"S": (re.compile(rb"S" + NUMBER + rb"(?:" + NUMBER + rb")?"), None),
+    b"S": (re.compile(rb"S" + NUMBER + rb"(?:" + NUMBER + rb"(?:" + NUMBER + rb")?)?"), None),
     b"J": (re.compile(rb"J" + 3 * NUMBER), join),
     b"L": (re.compile(rb"L" + NUMBER), leave),
     b"W": (re.compile(rb"W" + 3 * NUMBER), reweight),
@@ -280,18 +281,20 @@ def answer_line(table, line):
         return table, BROKEN_LINE
     event, numbers = call
     if event is None:               # S: a fresh table, or the present one kept
-        limit, rule = numbers if len(numbers) == 2 else (numbers[0], 1)
+        limit, rule, default = numbers + [1, DEFAULTS[0]][len(numbers) - 1:]
         if not 1 <= limit <= LARGEST_LIMIT:
             return table, 14
         if rule not in (1, 2):
             return table, 23
-        return Table(limit, rule), 0
+        if default not in DEFAULTS:
+            return table, 25
+        return Table(limit, rule, default), 0
     return table, event(table, *numbers)
 
 
 def first_table():
     """bandtrace begins with the table that refusal 14 gives."""
-    return Table(1, 1)
+    return Table(1, 1, DEFAULTS[0])
 
 
 def weighted_sum(table):

@@ -11,7 +11,9 @@ use std::process::ExitCode;
 const ROWS: usize = 64;
 const HEAVIEST: u64 = 16;
 const LONGEST_LENGTH: u64 = 10_000;
-const DEFAULT_LENGTH: u64 = 20;
+/// What a length of 0 stands for: the one that the table was made with.
+const DEFAULT_LENGTH: u64 = 8;
+const FORMER_DEFAULT: u64 = 20;
 const LARGEST_LIMIT: u64 = 100;
 const LAST_RULE: u64 = 2;
 const LARGEST_TOTAL: u64 = ROWS as u64 * HEAVIEST;
@@ -92,13 +94,18 @@ struct Table {
     limit: u64,
     /// For ties: 1 to the lower number, 2 to the lesser position first.
     rule: u64,
+    default: u64,
     out: bool,
     holder: usize,
     ticks: u64,
 }
 
+fn is_default(length: u64) -> bool {
+    length == DEFAULT_LENGTH || length == FORMER_DEFAULT
+}
+
 impl Table {
-    fn fresh(limit: u64, rule: u64) -> Table {
+    fn fresh(limit: u64, rule: u64, default: u64) -> Table {
         Table {
             rows: [FREE_ROW; ROWS],
             total: 0,
@@ -106,6 +113,7 @@ impl Table {
             resting: 0,
             limit,
             rule,
+            default,
             out: false,
             holder: 0,
             ticks: 0,
@@ -114,7 +122,11 @@ impl Table {
 
     /// Document 01, "A sound table", in one walk over the rows.
     fn is_sound(&self) -> bool {
-        if !(1..=LARGEST_LIMIT).contains(&self.limit) || !(1..=LAST_RULE).contains(&self.rule) || self.total > LARGEST_TOTAL {
+        if !(1..=LARGEST_LIMIT).contains(&self.limit)
+            || !(1..=LAST_RULE).contains(&self.rule)
+            || !is_default(self.default)
+            || self.total > LARGEST_TOTAL
+        {
             return false;
         }
         let (mut total, mut sum) = (0, 0);
@@ -170,7 +182,7 @@ impl Table {
         } else {
             self.sum.div_ceil(self.total)
         };
-        let length = if length == 0 { DEFAULT_LENGTH } else { length };
+        let length = if length == 0 { self.default } else { length };
         self.rows[number as usize] = Row {
             state: State::Asking,
             weight,
@@ -313,7 +325,7 @@ impl Table {
         if !self.is_asking(number) {
             return 8;
         }
-        let length = if length == 0 { DEFAULT_LENGTH } else { length };
+        let length = if length == 0 { self.default } else { length };
         self.rows[number as usize].next_length = length;
         0
     }
@@ -423,12 +435,12 @@ fn answer(table: &mut Table, line: &[u8]) -> Option<u64> {
     let (letter, fields) = line.split_first()?;
     Some(match letter {
         b'S' => {
-            let (limit, rule) = match numbers(fields) {
-                Some([limit]) => (limit, 1),
-                None => {
-                    let [limit, rule] = numbers(fields)?;
-                    (limit, rule)
-                }
+            let [limit, rule, default] = if let Some([limit]) = numbers(fields) {
+                [limit, 1, DEFAULT_LENGTH]
+            } else if let Some([limit, rule]) = numbers(fields) {
+                [limit, rule, DEFAULT_LENGTH]
+            } else {
+                numbers(fields)?
             };
             if !(1..=LARGEST_LIMIT).contains(&limit) {
                 return Some(14);
@@ -436,7 +448,10 @@ fn answer(table: &mut Table, line: &[u8]) -> Option<u64> {
             if !(1..=LAST_RULE).contains(&rule) {
                 return Some(23);
             }
-            *table = Table::fresh(limit, rule);
+            if !is_default(default) {
+                return Some(25);
+            }
+            *table = Table::fresh(limit, rule, default);
             0
         }
         b'J' => {
@@ -494,7 +509,7 @@ struct Trace {
 impl Trace {
     fn new() -> Trace {
         Trace {
-            table: Table::fresh(1, 1),
+            table: Table::fresh(1, 1, DEFAULT_LENGTH),
             lines: 0,
             printed: b"line answer who slice sum total\n".to_vec(),
         }

@@ -24,7 +24,7 @@ use Rattle.head.specs.declared.Event.{Event}
 use Rattle.head.specs.declared.Event.the-variants.{Fresh, Join, Leave, Reweight, Length, Grant, Return}
 use Rattle.head.specs.declared.Head.{Head}
 use Rattle.head.specs.declared.Refusal.{Refusal}
-use Rattle.head.specs.declared.Refusal.the-variants.{LimitOutside, RuleOutside}
+use Rattle.head.specs.declared.Refusal.the-variants.{LimitOutside, RuleOutside, DefaultOutside}
 use Rattle.head.specs.Answers.{refusalNumber, number, sliceGranted, queueGranted, denominatorGiven}
 use Rattle.head.specs.Lag.{lagOf}
 use Rattle.head.specs.Refusals.{firstOf}
@@ -33,9 +33,11 @@ use Rattle.share.specs.Calls.{refused, accepted, checksOf, grantReply, lagReply
 use Rattle.share.specs.Choice.{eligible, deadline, Chosen}
 use Rattle.share.specs.Events.{emptyTable, meant}
 use Rattle.share.specs.Release.{Frees, released, freed, Weighed}
+use Rattle.share.specs.Runs.{run, replies}
 use Rattle.share.specs.Sound.{Sound, Orderly}
 use Rattle.share.specs.Table.{row, AtMostV, TrueSums}
-use Rattle.calls.specs.Against.{NoneLower, Against, LimitWrong, RuleWrong, OnTable}
+use Rattle.calls.specs.Against.{NoneLower, Against, LimitWrong, RuleWrong, DefaultWrong, OnTable}
+use Rattle.calls.specs.ByName.{byName, allByName}
 use Rattle.calls.specs.Meaning.{FreshMeans, JoinMeans, LeaveMeans, ReweightMeans, LengthMeans, GrantMeans, ReturnMeans, LastFreed, StandsAs, NotBelow0}
 use Rattle.calls.specs.Public.{HandedBack, tableOf, Call, answered, doneOn, event}
 use Rattle.calls.specs.Rightly.{Rightly}
@@ -58,6 +60,7 @@ use Rattle.head.specs.Head as Head
 use Rattle.head.proofs.Entry as Entry
 use Rattle.share.proofs.Release as Release
 use Rattle.calls.proofs.Answering as Answering
+use Rattle.calls.proofs.ByName as ByName
 use Rattle.calls.proofs.Calling as Calling
 use Rattle.calls.proofs.Given as Given
 use Rattle.calls.proofs.OneDeparture as OneDeparture
@@ -116,12 +119,15 @@ standing-hands-the-table-back = Answering.standing-table
 pub release-hands-the-table-back : (t : Table) → Sound t → releaseReply t ≡ accepted t
 release-hands-the-table-back = Calling.release-sound
 
--- (refused, `fresh` has none to hand back and gives the empty table of slice limit 1 and rule 1)
+-- (refused, `fresh` has none to hand back and gives the empty table of slice limit 1, rule 1 and default 8)
 pub refused-fresh-is-empty : (terms : Terms) → LimitWrong terms → freshReply terms ≡ refused (emptyTable leastTerms) LimitOutside
 refused-fresh-is-empty = Given.fresh-wrong
 
 pub fresh-of-no-rule-is-empty : (terms : Terms) → (LimitWrong terms → ⊥) → RuleWrong terms → freshReply terms ≡ refused (emptyTable leastTerms) RuleOutside
 fresh-of-no-rule-is-empty = Given.fresh-ruled-wrong
+
+pub fresh-of-no-default-is-empty : (terms : Terms) → (LimitWrong terms → ⊥) → (RuleWrong terms → ⊥) → DefaultWrong terms → freshReply terms ≡ refused (emptyTable leastTerms) DefaultOutside
+fresh-of-no-default-is-empty = Given.fresh-default-wrong
 
 -- "and a lent list stays untouched."
 pub refused-leaves-the-list : (t : Table) (lent : List ℤ) → number (lagReply t lent .answer) ≢ 0 → lagList t lent ≡ lent
@@ -151,12 +157,23 @@ fresh-means = Meaning.fresh-means
 pub join-means : (t : Table) (queue weight length : ℕ) → number (step t (Join queue weight length) .answer) ≡ 0 → JoinMeans t (step t (Join queue weight length) .table) queue weight length
 join-means = Meaning.join-means
 
--- "a length of 0 in a call stands for the house default of 20."
-pub zero-means-the-default : (t : Table) → meant t 0 ≡ 20
+-- "a length of 0 in a call stands for the house default": that of the table, 8 or 20 (T-09)
+pub zero-means-the-default : (t : Table) → meant t 0 ≡ t .head .terms .default
 zero-means-the-default = Standing.zero-means
 
 pub other-lengths-mean-themselves : (t : Table) (length : ℕ) → length ≢ 0 → meant t length ≡ length
 other-lengths-mean-themselves = Standing.other-means
+
+-- (and for nothing else: a run gives the answers and tables of the run in which every 0 is the default by name, so an old list of events reads as before in a
+-- table of default 20)
+pub zero-is-the-default-by-name : (t : Table) (e : Event) → step t (byName (t .head .terms) e) ≡ step t e
+zero-is-the-default-by-name = ByName.step-by-name
+
+pub runs-by-name-are-the-same : (t : Table) (es : List Event) → replies t (allByName t es) ≡ replies t es
+runs-by-name-are-the-same = ByName.replies-by-name
+
+pub runs-by-name-end-the-same : (t : Table) (es : List Event) → run t (allByName t es) ≡ run t es
+runs-by-name-end-the-same = ByName.run-by-name
 
 -- "Leave. If its lag is 0 or more, the row is freed. Else it becomes going: its request is dropped, it keeps its weight in W and gets no slices"
 pub leave-means : (t : Table) (queue : ℕ) → number (step t (Leave queue) .answer) ≡ 0 → LeaveMeans t (step t (Leave queue) .table) queue

@@ -10,7 +10,7 @@ use Rattle.rows.specs.declared.Row.{Row}
 use Rattle.rows.specs.declared.State.{State}
 use Rattle.rows.specs.declared.State.the-variants.{Asking}
 use Rattle.rows.specs.declared.Terms.{Terms}
-use Rattle.rows.specs.Numbers.{lengthMeant, defaultOf}
+use Rattle.rows.specs.Numbers.{lengthMeant}
 use Rattle.rows.specs.Orderly.{OrderlyAs}
 use Rattle.rows.specs.Requests.{entering, rowNextSet, charged}
 use Rattle.rows.proofs.Requests.{meant-low}
@@ -44,17 +44,17 @@ use Rattle.account.specs.Account as Acc
 
 -- a length means the same to both, since they have the same terms
 abbrev pub meantIn : Account → ℕ → ℕ
-meantIn a l = lengthMeant (defaultOf (a .terms)) l
+meantIn a l = lengthMeant (a .terms) l
 
 pub same-meant : (t : Table) (a : Account) (l : ℕ) → Tied t a → meantIn a l ≡ meant t l
-same-meant t a l tied = ap (λ (terms : Terms). lengthMeant (defaultOf terms) l) (tied .same-terms)
+same-meant t a l tied = ap (λ (terms : Terms). lengthMeant terms l) (tied .same-terms)
 
 -- each event, tied, with the release that it ends in
 pub join-tied : (t : Table) (a b : Account) (i w l : ℕ) → Tied t a → Joins t i w l → Clears (Acc.entered a i w (meantIn a l)) b → Tied (joined t i w l) b
 unfolding joined
 join-tied t a b i w l tied j way =
     released-tied (placed t i (entering w (entry (t .head)) (meant t l)))
-    (entered-tied t a i w (meant t l) tied (j .inside) (j .free) (j .weight-low) (j .weight-high) (meant-low (t .head .terms) l))
+    (entered-tied t a i w (meant t l) tied (j .inside) (j .free) (j .weight-low) (j .weight-high) (meant-low (t .head .terms) l (j .was-sound .orderly-table .terms-allowed)))
     (subst (λ (n : ℕ). Clears (Acc.entered a i w n) b) (same-meant t a l tied) way)
 
 pub leave-tied : (t : Table) (a b : Account) (i : ℕ) → Tied t a → Leaves t i → Clears (Acc.left a i) b → Tied (left t i) b

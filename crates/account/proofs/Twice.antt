@@ -5,7 +5,7 @@ use mathlib.Core.Path.{_≡_, refl, ap}
 use Prim.Native.Nat.{ℕ}
 use native.Mathlib.Omega.{arith}
 use lib.IntN.{natAbs}
-use Rattle.rows.specs.Numbers.{lengthMeant, defaultOf, leastTerms}
+use Rattle.rows.specs.Numbers.{lengthMeant, leastTerms}
 use Rattle.head.specs.Head.{isEmpty}
 use Rattle.share.proofs.Computes.{stepping}
 use Rattle.fractions.specs.Fraction.{_÷_, whole, nothing, _⊕_, minus, portion, _~_, atMost, ceilingOf}
@@ -21,7 +21,7 @@ use Rattle.account.specs.Account as Acc
 
 -- all that an account's changes are made of, under one name
 booking : Account → List Change → Account
-unfolding plus times opposite _÷_ whole nothing _⊕_ minus portion atMost ceilingOf Acc.entry weightIn Acc.isEmpty gaining allGain Acc.returned passedOn rest weightLeft Acc.freed settled Acc.left newcomer enteredBeside enteredAlone entered noOne due cleared booked lengthMeant defaultOf
+unfolding plus times opposite _÷_ whole nothing _⊕_ minus portion atMost ceilingOf Acc.entry weightIn Acc.isEmpty gaining allGain Acc.returned passedOn rest weightLeft Acc.freed settled Acc.left newcomer enteredBeside enteredAlone entered noOne due cleared booked lengthMeant
 booking a cs = accountFrom a cs
 
 table-sum : tableAfter leastTerms eightLines .head .sum ≡ 1441440

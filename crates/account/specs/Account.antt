@@ -6,7 +6,7 @@ use lib.Dec.{leb, eqb}
 use lib.ListN.{getD, set, replicate}
 use Rattle.laws.specs.Lists.{sumOf}
 use Rattle.rows.specs.declared.Terms.{Terms}
-use Rattle.rows.specs.Numbers.{queues, unit, lengthMeant, defaultOf}
+use Rattle.rows.specs.Numbers.{queues, unit, lengthMeant}
 use Rattle.fractions.specs.Fraction.{Fraction, whole, nothing, _⊕_, minus, portion, atMost, ceilingOf}
 use Rattle.account.specs.Changes.{Change, begins, joins, leaves, lengthens, returns}
 
@@ -225,7 +225,7 @@ noOne terms = record { entries = replicate queues absent; virtual = nothing; ter
 -- a change, before its release
 abbrev pub made : Account → Change → Account
 made a (begins terms) = noOne terms
-made a (joins queue weight length) = entered a queue weight (lengthMeant (defaultOf (a .terms)) length)
+made a (joins queue weight length) = entered a queue weight (lengthMeant (a .terms) length)
 made a (leaves queue) = left a queue
-made a (lengthens queue length) = lengthened a queue (lengthMeant (defaultOf (a .terms)) length)
+made a (lengthens queue length) = lengthened a queue (lengthMeant (a .terms) length)
 made a (returns queue used early) = returned a queue used early

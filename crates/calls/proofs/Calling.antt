@@ -8,7 +8,7 @@ use mathlib.Core.Path.{_≡_, refl, sym, ap, _∙_}
 use Prim.Native.Nat.{_≤_}
 use Rattle.rows.specs.declared.Terms.{Terms}
 use Rattle.rows.specs.Orderly.{Allowed}
-use Rattle.rows.proofs.Orderly.{within-limit, within-rule}
+use Rattle.rows.proofs.Orderly.{within-limit, within-rule, within-default}
 use Rattle.head.specs.declared.Refusal.{Refusal}
 use Rattle.head.specs.Answers.{refusalNumber, number}
 use Rattle.head.specs.Refusals.{firstOf}
@@ -97,4 +97,7 @@ answered-keeps t (standing queue) h = rw (standing-table t queue) h
 pub from-fresh : (terms : Terms) → Allowed terms → (cs : List Call) → tableOf terms cs ≡ run (emptyTable terms) (eventsOf cs)
 unfolding tableOf
 from-fresh terms allows cs =
-    ap (λ (r : Reply). runCalls (r .table) cs) (fresh-accepted terms (within-limit terms (allows .limit-low) (allows .limit-high)) (within-rule terms (allows .rule-low) (allows .rule-high))) ∙ calls-run (emptyTable terms) cs
+    ap (λ (r : Reply). runCalls (r .table) cs)
+    (fresh-accepted terms (within-limit terms (allows .limit-low) (allows .limit-high)) (within-rule terms (allows .rule-low) (allows .rule-high))
+    (within-default terms (allows .default-known)))
+    ∙ calls-run (emptyTable terms) cs

@@ -2,28 +2,28 @@
 -- a call is what its checks say, sentence by sentence; on another 1 answers, which is the lowest of all.
 use mathlib.Core.Bool.{true, false, not, Bool}
 use mathlib.Core.List.{List, [], _∷_}
-use mathlib.Core.Logic.{⊎-elim, _↔_}
+use mathlib.Core.Logic.{⊎-elim, _↔_, _⊎_}
 use mathlib.Core.Option.{Option, none, some}
 use mathlib.Core.Path.{_≡_, refl, sym, ap, _∙_, subst⁻¹, subst}
 use Prim.Native.Nat.{ℕ, _<_, _*_}
 use native.Mathlib.Omega.{arith}
 use borrow.Author.Tests.{ltb-true, lt-ltb, not-true, leb-false, lt-leb}
-use Rattle.laws.proofs.Tests.{clash, le-or-lt, refuted}
+use Rattle.laws.proofs.Tests.{clash, le-or-lt, refuted, either}
 use Rattle.rows.specs.declared.Row.{Row}
 use Rattle.rows.specs.declared.State.{State}
 use Rattle.rows.specs.declared.State.the-variants.{Free, Going, Asking}
 use Rattle.rows.specs.declared.Terms.{Terms}
 use Rattle.rows.specs.Numbers.{maxWeight, maxLimit, maxRule, ceiling, leastTerms}
 use Rattle.rows.specs.Order.{bid, bidAs, bidOf}
-use Rattle.rows.specs.Orderly.{limitOutside, ruleOutside, fitsCeiling, OrderlyAs}
+use Rattle.rows.specs.Orderly.{limitOutside, ruleOutside, defaultOutside, fitsCeiling, OrderlyAs}
 use Rattle.rows.specs.Row.{isFree}
 use Rattle.rows.specs.Virtual.{eligibleAs, eligibleAt}
-use Rattle.rows.proofs.Orderly.{outside-says, says-outside}
+use Rattle.rows.proofs.Orderly.{outside-says, says-outside, default-within, within-default}
 use Rattle.head.specs.declared.Event.{Event}
 use Rattle.head.specs.declared.Event.the-variants.{Fresh, Join, Leave, Reweight, Length, Grant, Return}
 use Rattle.head.specs.declared.Head.{Head}
 use Rattle.head.specs.declared.Refusal.{Refusal}
-use Rattle.head.specs.declared.Refusal.the-variants.{Unsound, LimitOutside, RuleOutside}
+use Rattle.head.specs.declared.Refusal.the-variants.{Unsound, LimitOutside, RuleOutside, DefaultOutside}
 use Rattle.head.specs.Answers.{refusalNumber, number}
 use Rattle.head.specs.Lag.{lagOf}
 use Rattle.head.specs.Refusals.{Check, _when_, checksFor, rowTaken, notAsking, ticksOutside, ceilingPassed, passedAs, firstOf, lagBelow}
@@ -36,14 +36,14 @@ use Rattle.share.specs.Sound.{Sound, sound}
 use Rattle.share.specs.Table.{row, AtMostV}
 use Rattle.share.proofs.Mean.{chosen-rightly}
 use Rattle.share.proofs.Sound.{sound-says, says-sound}
-use Rattle.calls.specs.Against.{Against, fresh-14, fresh-23, join-1, join-2, join-3, join-4, join-5, join-7, leave-1, leave-2, leave-5, leave-8, reweight-1, reweight-2, reweight-3, reweight-4, reweight-5, reweight-8, reweight-9, length-1, length-2, length-4, length-5, length-8, grant-1, grant-5, grant-11, grant-12, return-1, return-2, return-6, return-10, release-1, report-1, report-13, standing-1, standing-2, standing-31, PastCeiling, NotSound, OnTable, NoneLower, LimitWrong, RuleWrong, Owes}
+use Rattle.calls.specs.Against.{Against, fresh-14, fresh-23, fresh-25, join-1, join-2, join-3, join-4, join-5, join-7, leave-1, leave-2, leave-5, leave-8, reweight-1, reweight-2, reweight-3, reweight-4, reweight-5, reweight-8, reweight-9, length-1, length-2, length-4, length-5, length-8, grant-1, grant-5, grant-11, grant-12, return-1, return-2, return-6, return-10, release-1, report-1, report-13, standing-1, standing-2, standing-31, PastCeiling, NotSound, OnTable, NoneLower, LimitWrong, RuleWrong, DefaultWrong, Owes}
 use Rattle.calls.specs.Meaning.{NotBelow0}
 use Rattle.calls.specs.Public.{HandedBack, doneOn, Call, event, release, report, standing, checksOn, answered}
 use Rattle.calls.proofs.Applying.{none-applies, Applies, here, later, queue-outside, length-outside, unsound-says, not-holder-says, lag-below-says, empty-says, first-applies, applies-given, first-lowest, lowest-first}
 use Rattle.calls.proofs.Calling.{answered-done, answered-refused, on-ordered, done-number}
 use Rattle.calls.proofs.Choosing.{chosen-choice}
 use Rattle.calls.proofs.Numbered.{same-refusal, known}
-use Rattle.calls.proofs.Replies.{fresh-refused, fresh-of-no-rule}
+use Rattle.calls.proofs.Replies.{fresh-refused, fresh-of-no-rule, fresh-of-no-default}
 use Rattle.calls.proofs.Standing.{empty-means, lag-sign}
 
 -- 12: the deadline of the row that is chosen
@@ -123,6 +123,13 @@ module _ (S : Refusal → Type 0) where
   no-more : {why : Refusal} → Applies why [] → S why
   no-more h = absurd (none-applies h refl)
 
+-- 25: the default is neither of the two
+default-says : (terms : Terms) → defaultOutside terms ≡ true → DefaultWrong terms
+default-says terms e = (λ is. clash e (within-default terms (_⊎_.inl is)), λ is. clash e (within-default terms (_⊎_.inr is)))
+
+says-default : (terms : Terms) → DefaultWrong terms → defaultOutside terms ≡ true
+says-default terms h = ⊎-elim (λ e. e) (λ e. absurd (⊎-elim (h .0) (h .1) (default-within terms e))) (either (defaultOutside terms))
+
 -- On a sound table what speaks against a call is what its checks say.
 module _ (t : Table) (is : Sound t) where
   reads-event : (e : Event) {why : Refusal} → Applies why (checksOf t e) → Against t (event e) why
@@ -130,7 +137,8 @@ module _ (t : Table) (is : Sound t) where
   reads-event (Fresh terms) =
       first-of (Against t (event (Fresh terms))) (λ p. fresh-14 (outside-says 1 maxLimit (terms .limit) p))
       (first-of (Against t (event (Fresh terms))) (λ p. fresh-23 (outside-says 1 maxRule (terms .rule) p))
-      (no-more (Against t (event (Fresh terms)))))
+      (first-of (Against t (event (Fresh terms))) (λ p. fresh-25 (default-says terms p))
+      (no-more (Against t (event (Fresh terms))))))
   reads-event (Join q w l) =
       first-of (Against t (event (Join q w l))) (λ p. join-1 (unsound-says t .0 p))
       (first-of (Against t (event (Join q w l))) (λ p. join-2 (queue-outside q .0 p))
@@ -191,6 +199,7 @@ module _ (t : Table) (is : Sound t) where
   unfolding checksOf checksFor rowTaken notAsking ticksOutside limitOutside ruleOutside releaseChecks lagChecks standingChecks
   back (fresh-14 {terms} h) = here (says-outside 1 maxLimit (terms .limit) h)
   back (fresh-23 {terms} h) = later (here (says-outside 1 maxRule (terms .rule) h))
+  back (fresh-25 {terms} h) = later (later (here (says-default terms h)))
   back (join-1 h) = here (unsound-says t .1 h)
   back (join-2 {q} h) = later (here (queue-outside q .1 h))
   back (join-3 {w = w} h) = later (later (here (says-outside 1 maxWeight w h)))
@@ -257,12 +266,14 @@ fresh-reads : (t : Table) (terms : Terms) (why : Refusal) → Applies why (check
 unfolding checksOf checksFor limitOutside ruleOutside
 fresh-reads t terms why =
     first-of (Against t (event (Fresh terms))) (λ p. fresh-14 (outside-says 1 maxLimit (terms .limit) p))
-    (first-of (Against t (event (Fresh terms))) (λ p. fresh-23 (outside-says 1 maxRule (terms .rule) p)) (no-more (Against t (event (Fresh terms)))))
+    (first-of (Against t (event (Fresh terms))) (λ p. fresh-23 (outside-says 1 maxRule (terms .rule) p))
+    (first-of (Against t (event (Fresh terms))) (λ p. fresh-25 (default-says terms p)) (no-more (Against t (event (Fresh terms))))))
 
 fresh-back : (t : Table) (terms : Terms) (why : Refusal) → Against t (event (Fresh terms)) why → Applies why (checksOf t (Fresh terms))
 unfolding checksOf checksFor limitOutside ruleOutside
 fresh-back t terms why (fresh-14 h) = here (says-outside 1 maxLimit (terms .limit) h)
 fresh-back t terms why (fresh-23 h) = later (here (says-outside 1 maxRule (terms .rule) h))
+fresh-back t terms why (fresh-25 h) = later (later (here (says-default terms h)))
 
 -- on a table that isn't sound every other call answers 1
 module _ (t : Table) (not-sound : NotSound t) where
@@ -355,12 +366,18 @@ done-where-nothing t c nothing-speaks = by (firstOf (checksOn t c)) refl
     by (some given) is =
         absurd (nothing-speaks given (given-exactly t c given .0 (answered-refused t c given is .answer-is) .0))
 
--- refused, `fresh` has no table to hand back
--- nor of a rule that there is not
+-- refused, `fresh` has no table to hand back: neither for its limit, nor for a rule that there is not, nor for a default
 pub fresh-ruled-wrong : (terms : Terms) → (LimitWrong terms → ⊥) → RuleWrong terms → freshReply terms ≡ refused (emptyTable leastTerms) RuleOutside
 unfolding limitOutside ruleOutside
 fresh-ruled-wrong terms fine h =
     fresh-of-no-rule terms (refuted (limitOutside terms) (λ e. fine (outside-says 1 maxLimit (terms .limit) e))) (says-outside 1 maxRule (terms .rule) h)
+
+pub fresh-default-wrong : (terms : Terms) → (LimitWrong terms → ⊥) → (RuleWrong terms → ⊥) → DefaultWrong terms → freshReply terms ≡ refused (emptyTable leastTerms) DefaultOutside
+unfolding limitOutside ruleOutside
+fresh-default-wrong terms limit rule h =
+    fresh-of-no-default terms (refuted (limitOutside terms) (λ e. limit (outside-says 1 maxLimit (terms .limit) e)))
+    (refuted (ruleOutside terms) (λ e. rule (outside-says 1 maxRule (terms .rule) e)))
+    (says-default terms h)
 
 pub fresh-wrong : (terms : Terms) → LimitWrong terms → freshReply terms ≡ refused (emptyTable leastTerms) LimitOutside
 unfolding limitOutside

@@ -34,6 +34,8 @@ pub mod Meaning
 pub mod Departed
 -- what stands whatever the event
 pub mod Standing
+-- a length of 0 is the table's default said by name
+pub mod ByName
 -- where a row stands, by its lag and by V
 pub mod Panel
 -- the public calls in one: refused with the table as given, or done

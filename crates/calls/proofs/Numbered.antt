@@ -6,14 +6,14 @@ use Prim.Native.Nat.{ℕ, _≤_}
 use native.Mathlib.Omega.{arith}
 use lib.Dec.{eqb}
 use Rattle.head.specs.declared.Refusal.{Refusal}
-use Rattle.head.specs.declared.Refusal.the-variants.{Unsound, QueueOutside, WeightOutside, LengthOutside, SliceOut, NotHolder, RowTaken, NotAsking, LagBelow, TicksOutside, TableEmpty, CeilingPassed, ListShort, LimitOutside, RowFree, RuleOutside}
+use Rattle.head.specs.declared.Refusal.the-variants.{Unsound, QueueOutside, WeightOutside, LengthOutside, SliceOut, NotHolder, RowTaken, NotAsking, LagBelow, TicksOutside, TableEmpty, CeilingPassed, ListShort, LimitOutside, RowFree, RuleOutside, DefaultOutside}
 use Rattle.head.specs.Answers.{refusalNumber}
 
 -- a refusal is known by its number, and no number is 0
 abbrev refusals : List Refusal
 refusals =
     Unsound ∷ QueueOutside ∷ WeightOutside ∷ LengthOutside ∷ SliceOut ∷ NotHolder ∷ RowTaken ∷ NotAsking ∷ LagBelow ∷ TicksOutside ∷ TableEmpty
-    ∷ CeilingPassed ∷ ListShort ∷ LimitOutside ∷ RowFree ∷ RuleOutside ∷ []
+    ∷ CeilingPassed ∷ ListShort ∷ LimitOutside ∷ RowFree ∷ RuleOutside ∷ DefaultOutside ∷ []
 
 abbrev numbered : ℕ → List Refusal → Refusal
 numbered n [] = Unsound
@@ -39,6 +39,7 @@ known ListShort = (refl, omega arith)
 known LimitOutside = (refl, omega arith)
 known RowFree = (refl, omega arith)
 known RuleOutside = (refl, omega arith)
+known DefaultOutside = (refl, omega arith)
 
 pub same-refusal : (a b : Refusal) → refusalNumber a ≡ refusalNumber b → a ≡ b
 same-refusal a b e = sym (known a .0) ∙ ap refusalOf e ∙ known b .0

@@ -5,9 +5,9 @@ use mathlib.Core.Option.{Option, none, some}
 use mathlib.Core.Path.{_≡_, refl}
 use Rattle.rows.specs.declared.Terms.{Terms}
 use Rattle.rows.specs.Numbers.{leastTerms}
-use Rattle.rows.specs.Orderly.{limitOutside, ruleOutside}
+use Rattle.rows.specs.Orderly.{limitOutside, ruleOutside, defaultOutside}
 use Rattle.head.specs.declared.Refusal.{Refusal}
-use Rattle.head.specs.declared.Refusal.the-variants.{LimitOutside, RuleOutside}
+use Rattle.head.specs.declared.Refusal.the-variants.{LimitOutside, RuleOutside, DefaultOutside}
 use Rattle.head.specs.Refusals.{Check, firstOf, checksFor}
 use Rattle.share.specs.declared.Reply.{Reply}
 use Rattle.share.specs.declared.Table.{Table}
@@ -33,9 +33,13 @@ pub fresh-of-no-rule : (terms : Terms) → limitOutside terms ≡ false → rule
 unfolding step checksOf checksFor
 fresh-of-no-rule terms e f = call-refused _ _ _ _ (rw (e, f) refl)
 
-pub fresh-accepted : (terms : Terms) → limitOutside terms ≡ false → ruleOutside terms ≡ false → freshReply terms ≡ accepted (emptyTable terms)
+pub fresh-of-no-default : (terms : Terms) → limitOutside terms ≡ false → ruleOutside terms ≡ false → defaultOutside terms ≡ true → freshReply terms ≡ refused (emptyTable leastTerms) DefaultOutside
 unfolding step checksOf checksFor
-fresh-accepted terms e f = call-accepted _ _ _ (rw (e, f) refl)
+fresh-of-no-default terms e f g = call-refused _ _ _ _ (rw (e, f, g) refl)
+
+pub fresh-accepted : (terms : Terms) → limitOutside terms ≡ false → ruleOutside terms ≡ false → defaultOutside terms ≡ false → freshReply terms ≡ accepted (emptyTable terms)
+unfolding step checksOf checksFor
+fresh-accepted terms e f g = call-accepted _ _ _ (rw (e, f, g) refl)
 
 pub refused-handed-back : (checks : List Check) (t : Table) (event : Reply) (why : Refusal) → firstOf checks ≡ some why → HandedBack t (call checks t event) why
 refused-handed-back checks t event why e =

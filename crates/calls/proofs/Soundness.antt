@@ -18,7 +18,7 @@ use Rattle.rows.specs.Orderly.{OrderlyRow, Allowed, sliceLeast}
 use Rattle.rows.specs.Requests.{entering, nextSet, rowNextSet, charged}
 use Rattle.rows.specs.Row.{blank, isFree, isGoing, isAsking, weightIn, momentIn}
 use Rattle.rows.specs.Virtual.{eligibleAs, eligibleAt}
-use Rattle.rows.proofs.Orderly.{fits-says, limit-within, rule-within, rule-within}
+use Rattle.rows.proofs.Orderly.{fits-says, limit-within, rule-within, default-within}
 use Rattle.rows.proofs.Requests.{entering-orderly, next-orderly, charged-orderly}
 use Rattle.rows.proofs.Virtual.{reached-yes}
 use Rattle.head.specs.declared.Event.{Event}
@@ -52,7 +52,7 @@ joined-sound t queue weight length j =
     let r = entering weight (entry (t .head)) (meant t length) in
     release-sound (placed t queue r) (placed-out t queue r ∙ j .still)
     (placed-keeps t queue r (j .still) o (j .inside)
-    (entering-orderly (t .head .terms) weight (entry (t .head)) length
+    (entering-orderly (t .head .terms) weight (entry (t .head)) length (o .terms-allowed)
     (record { weight-low = j .weight-low; weight-high = j .weight-high; position-high = entry-high t o })
     (j .length-high)))
 
@@ -96,7 +96,7 @@ length-sound t queue length l =
     record {
       orderly-table =
           placed-keeps t queue new (l .leaves .still) o (l .leaves .inside)
-          (next-orderly (t .head .terms) (old .state) (old .weight) (old .position) length (l .length-high) (o .each queue));
+          (next-orderly (t .head .terms) (old .state) (old .weight) (old .position) length (o .terms-allowed) (l .length-high) (o .each queue));
       no-one-ready =
           calm-placed t queue new inside (kind .1 ∙ asking-stays (old .state) (l .leaves .asks))
           (ap (λ (b : Bool). cond b 0 (old .weight)) (kind .0))
@@ -181,7 +181,13 @@ fresh-allowed terms e =
     let fails = fails-at (freshChecks terms) e in
     let limit = limit-within terms (fails 0) in
     let rule = rule-within terms (fails 1) in
-    record { limit-low = limit .0; limit-high = limit .1; rule-low = rule .0; rule-high = rule .1 }
+    record {
+      limit-low = limit .0;
+      limit-high = limit .1;
+      rule-low = rule .0;
+      rule-high = rule .1;
+      default-known = default-within terms (fails 2);
+    }
 
 -- what an accepted event leaves
 done-sound : (t : Table) (e : Event) → firstOf (checksOf t e) ≡ none → Sound (doneBy t e .table)

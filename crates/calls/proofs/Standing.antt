@@ -16,7 +16,7 @@ use Rattle.rows.specs.declared.Row.{Row}
 use Rattle.rows.specs.declared.State.{State}
 use Rattle.rows.specs.declared.State.the-variants.{Free, Going, Asking}
 use Rattle.rows.specs.declared.Terms.{Terms}
-use Rattle.rows.specs.Numbers.{lengthMeant, defaultOf}
+use Rattle.rows.specs.Numbers.{lengthMeant}
 use Rattle.rows.specs.Orderly.{OrderlyRow}
 use Rattle.rows.specs.Row.{blank, isFree, weightIn, isGoing}
 use Rattle.rows.proofs.Shares.{orderly-weight, asking-not-free, going-not-free, orderly-weighs}
@@ -45,7 +45,7 @@ use Rattle.head.specs.Answers.{number}
 use Rattle.head.specs.Head as AtMost
 
 -- "Slice limit 1 to 100 ticks, fixed when a table is made."
-left-terms : (t : Table) (queue : ℕ) → left t queue .head .terms ≡ t .head .terms
+pub left-terms : (t : Table) (queue : ℕ) → left t queue .head .terms ≡ t .head .terms
 unfolding left
 left-terms t queue = put-terms t queue _
 
@@ -67,9 +67,9 @@ pub terms-stay : (t : Table) (e : Event) → ((terms : Terms) → e ≢ Fresh te
 unfolding step
 terms-stay t e h = call-cases (λ r. r .table .head .terms ≡ t .head .terms) (checksOf t e) t (doneBy t e) (λ why is. refl) (λ fine. done-terms t e h)
 
--- "a length of 0 in a call stands for the house default of 20": so 0 means 20, and any other length itself
-pub zero-means : (t : Table) → meant t 0 ≡ 20
-unfolding lengthMeant defaultOf
+-- "a length of 0 in a call stands for the house default": the table's own (T-09), and any other length for itself
+pub zero-means : (t : Table) → meant t 0 ≡ t .head .terms .default
+unfolding lengthMeant
 zero-means t = refl
 
 pub other-means : (t : Table) (length : ℕ) → length ≢ 0 → meant t length ≡ length

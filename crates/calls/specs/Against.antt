@@ -7,11 +7,11 @@ use Prim.Native.Nat.{ℕ, _<_}
 use lib.IntN.{ℤ}
 use lib.ListN.{length}
 use Rattle.rows.specs.declared.Terms.{Terms}
-use Rattle.rows.specs.Numbers.{queues, maxWeight, maxLength, maxLimit, maxRule, ceiling}
+use Rattle.rows.specs.Numbers.{queues, maxWeight, maxLength, maxLimit, maxRule, defaultLength, formerDefault, ceiling}
 use Rattle.rows.specs.Row.{isFree, isAsking}
 use Rattle.head.specs.declared.Event.the-variants.{Fresh, Join, Leave, Reweight, Length, Grant, Return}
 use Rattle.head.specs.declared.Refusal.{Refusal}
-use Rattle.head.specs.declared.Refusal.the-variants.{Unsound, QueueOutside, WeightOutside, LengthOutside, SliceOut, NotHolder, RowTaken, NotAsking, LagBelow, TicksOutside, TableEmpty, CeilingPassed, ListShort, LimitOutside, RowFree, RuleOutside}
+use Rattle.head.specs.declared.Refusal.the-variants.{Unsound, QueueOutside, WeightOutside, LengthOutside, SliceOut, NotHolder, RowTaken, NotAsking, LagBelow, TicksOutside, TableEmpty, CeilingPassed, ListShort, LimitOutside, RowFree, RuleOutside, DefaultOutside}
 use Rattle.head.specs.Answers.{refusalNumber}
 use Rattle.head.specs.Lag.{lagOf}
 use Rattle.share.specs.declared.Table.{Table}
@@ -83,6 +83,10 @@ LimitWrong terms = (terms .limit < 1) ⊎ (maxLimit < terms .limit)
 abbrev pub RuleWrong : Terms → Type 0
 RuleWrong terms = (terms .rule < 1) ⊎ (maxRule < terms .rule)
 
+-- 25 "a default other than 8 or 20" (T-09)
+abbrev pub DefaultWrong : Terms → Type 0
+DefaultWrong terms = (terms .default ≢ defaultLength) × (terms .default ≢ formerDefault)
+
 -- 31 "for a free row" (T-05)
 abbrev pub NobodyThere : Table → ℕ → Type 0
 NobodyThere t queue = isFree (row t queue .state) ≡ true
@@ -91,6 +95,7 @@ NobodyThere t queue = isFree (row t queue .state) ≡ true
 pub data Against (t : Table) : Call → Refusal → Type 0 where
   fresh-14 : {terms : Terms} → LimitWrong terms → Against t (event (Fresh terms)) LimitOutside
   fresh-23 : {terms : Terms} → RuleWrong terms → Against t (event (Fresh terms)) RuleOutside
+  fresh-25 : {terms : Terms} → DefaultWrong terms → Against t (event (Fresh terms)) DefaultOutside
   join-1 : {q w l : ℕ} → NotSound t → Against t (event (Join q w l)) Unsound
   join-2 : {q w l : ℕ} → QueueAbove q → Against t (event (Join q w l)) QueueOutside
   join-3 : {q w l : ℕ} → WeightWrong w → Against t (event (Join q w l)) WeightOutside

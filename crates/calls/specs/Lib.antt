@@ -5,6 +5,8 @@
 pub mod Public
 -- which refusal speaks against a call, in the words of document 01
 pub mod Against
+-- a list of events in which every length of 0 is said by name
+pub mod ByName
 -- what a grant is to be
 pub mod Rightly
 -- what each accepted event means, of the tables before and after

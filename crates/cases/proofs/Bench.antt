@@ -1,4 +1,4 @@
--- B1 to B12 hold of the definitions: one statement, computed.
+-- B1 to B13 hold of the definitions: one statement, computed.
 use mathlib.Core.Bool.{true}
 use mathlib.Core.Path.{_≡_, refl}
 use Rattle.laws.specs.Lists.{all}

@@ -1,15 +1,16 @@
--- Document 01, "Bench cases": B1 to B11 in one table, every number that it gives for them; and B12, of T-02, whose numbers are the independent program's.
+-- Document 01, "Bench cases": B1 to B11 in one table, every number that it gives for them; and B12, of T-02, and B13,
+-- of T-09, whose numbers are the independent program's.
 use mathlib.Core.Bool.{false}
 use mathlib.Core.List.{List, [], _∷_, _++_}
 use Prim.Native.Nat.{ℕ, _-_}
 use lib.IntN.{pos}
 use Rattle.rows.specs.Numbers.{ceiling, leastTerms}
 use Rattle.rows.specs.Requests.{entering}
-use Rattle.head.specs.declared.Event.the-variants.{Join, Leave, Reweight, Grant, Return}
+use Rattle.head.specs.declared.Event.the-variants.{Join, Leave, Reweight, Length, Grant, Return}
 use Rattle.share.specs.declared.Table.{Table}
 use Rattle.share.specs.Events.{emptyTable}
 use Rattle.share.specs.Table.{placed}
-use Rattle.cases.specs.Facts.{minus, _over_, answers, grants, sums, weighs, virtual-time, not-virtual-time, lag, reports, rests-at, enters-at, is-free, is-going, from-sound, only-takes-the-slice-in, fresh, Line, _then_, Case}
+use Rattle.cases.specs.Facts.{minus, _over_, answers, grants, sums, weighs, virtual-time, not-virtual-time, lag, reports, rests-at, enters-at, is-free, is-going, from-sound, only-takes-the-slice-in, fresh, freshOf, Line, _then_, Case}
 
 -- "It begins with the table that refusal 14 gives"
 abbrev pub first : List Line → Case
@@ -66,6 +67,26 @@ emptied =
     ∷ (Return 4 1 false then sums 2342340 3 ∷ virtual-time (pos 780780 over 1) ∷ [])
     ∷ []
 
+-- B13: a length of 0 is 8, and 20 in a 20-tick table, at a join, at a length event and at a reweight; "a default other than 8 or 20 is 25, after 23"
+abbrev pub defaults : List Line
+defaults =
+    (freshOf 100 1 8 then answers 0 ∷ [])
+    ∷ (Join 3 2 0 then answers 0 ∷ [])
+    ∷ (Length 3 5 then answers 0 ∷ [])
+    ∷ (Grant then grants 3 8 ∷ [])
+    ∷ (Return 3 8 false then answers 0 ∷ [])
+    ∷ (Length 3 0 then answers 0 ∷ [])
+    ∷ (Grant then grants 3 5 ∷ [])
+    ∷ (Return 3 5 false then answers 0 ∷ [])
+    ∷ (Grant then grants 3 8 ∷ [])
+    ∷ (freshOf 100 1 9 then answers 25 ∷ [])
+    ∷ (freshOf 100 3 9 then answers 23 ∷ [])
+    ∷ (freshOf 100 1 20 then answers 0 ∷ [])
+    ∷ (Join 3 2 7 then answers 0 ∷ [])
+    ∷ (Reweight 3 1 0 then answers 0 ∷ [])
+    ∷ (Grant then grants 3 20 ∷ [])
+    ∷ []
+
 -- B10: "a lone queue of weight 16, length 1, nothing served"
 unfoldable pub loneAt : ℕ → Table
 loneAt position = placed (emptyTable leastTerms) 0 (entering 16 position 1)
@@ -105,4 +126,6 @@ bench =
     ∷ first (sliceOut ++ (Return 5 0 false then answers 0 ∷ only-takes-the-slice-in ∷ []) ∷ [])
     -- B12, T-02: the table empties and fills again, twice
     ∷ first emptied
+    -- B13, T-09: the two defaults
+    ∷ first defaults
     ∷ []

@@ -8,6 +8,7 @@ use Rattle.laws.specs.Lists.{all}
 use Rattle.rows.specs.declared.Row.{Row}
 use Rattle.rows.specs.declared.State.{State}
 use Rattle.rows.specs.declared.State.the-variants.{Free, Going, Asking}
+use Rattle.rows.specs.Numbers.{defaultLength}
 use Rattle.rows.specs.Row.{isFree, isGoing}
 use Rattle.head.specs.declared.Answer.{Answer}
 use Rattle.head.specs.declared.Answer.the-variants.{Accepted, Granted, Reported, Stands, Refused}
@@ -94,7 +95,7 @@ flagNumber false = 0
 
 abbrev pub tableNumbers : Table → List ℕ
 tableNumbers t =
-    t .head .total ∷ t .head .sum ∷ t .head .resting ∷ t .head .terms .limit ∷ t .head .terms .rule ∷ flagNumber (t .head .out) ∷ t .head .holder ∷ t .head .ticks ∷ rowNumbers (t .rows)
+    t .head .total ∷ t .head .sum ∷ t .head .resting ∷ t .head .terms .limit ∷ t .head .terms .rule ∷ t .head .terms .default ∷ flagNumber (t .head .out) ∷ t .head .holder ∷ t .head .ticks ∷ rowNumbers (t .rows)
 
 abbrev pub sameNumbers : List ℕ → List ℕ → Bool
 sameNumbers [] [] = true
@@ -119,9 +120,12 @@ holds before r (is-going queue) = isGoing (row (r .table) queue .state)
 holds before r from-sound = sound before
 holds before r only-takes-the-slice-in = sameNumbers (tableNumbers (r .table)) (tableNumbers (withSlice before false 0 0))
 
--- an event, and what is said of it; a fresh table by its slice limit, of rule 1
+-- an event, and what is said of it; a fresh table by its slice limit, of rule 1 and the house default
 abbrev pub fresh : ℕ → Event
-fresh limit = Fresh (record { limit = limit; rule = 1 })
+fresh limit = Fresh (record { limit = limit; rule = 1; default = defaultLength })
+
+abbrev pub freshOf : ℕ → ℕ → ℕ → Event
+freshOf limit rule default = Fresh (record { limit = limit; rule = rule; default = default })
 
 infix 20 _then_
 pub data Line : Type 0 where

@@ -6,9 +6,13 @@ use share::Table;
 use share::Terms;
 
 pub fn first_grant(queue: u64) -> Reply
-    ensures { λ r. ⌜ r ≡ grantReply (joinReply (freshReply (record { limit = 5; rule = 1 }) .table) queue 8 20 .table) ⌝ }
+    ensures { λ r. ⌜ r ≡ grantReply (joinReply (freshReply (record { limit = 5; rule = 1; default = 8 }) .table) queue 8 20 .table) ⌝ }
 {
-    let fresh = Table::fresh(Terms { limit: 5, rule: 1 });
+    let fresh = Table::fresh(Terms {
+        limit: 5,
+        rule: 1,
+        default: 8,
+    });
     let joined = fresh.table.join(queue, 8, 20);
     joined.table.grant()
 }

@@ -7,7 +7,7 @@ use Rattle.head.specs.declared.Answer.{Answer}
 use Rattle.head.specs.declared.Answer.the-variants.{Accepted, Granted, Reported, Stands, Refused}
 use Rattle.head.specs.declared.Refusal.{Refusal}
 use Rattle.head.specs.declared.Shown.{Shown}
-use Rattle.head.specs.declared.Refusal.the-variants.{Unsound, QueueOutside, WeightOutside, LengthOutside, SliceOut, NotHolder, RowTaken, NotAsking, LagBelow, TicksOutside, TableEmpty, CeilingPassed, ListShort, LimitOutside, RowFree, RuleOutside}
+use Rattle.head.specs.declared.Refusal.the-variants.{Unsound, QueueOutside, WeightOutside, LengthOutside, SliceOut, NotHolder, RowTaken, NotAsking, LagBelow, TicksOutside, TableEmpty, CeilingPassed, ListShort, LimitOutside, RowFree, RuleOutside, DefaultOutside}
 
 -- the column "No."
 abbrev pub refusalNumber : Refusal → ℕ
@@ -29,6 +29,8 @@ refusalNumber LimitOutside = 14
 refusalNumber RowFree = 31
 -- T-06, "another rule number is 23"
 refusalNumber RuleOutside = 23
+-- T-09, "a default other than 8 or 20 is 25"
+refusalNumber DefaultOutside = 25
 
 -- 0 for accepted
 abbrev pub number : Answer → ℕ

@@ -11,12 +11,12 @@ use Rattle.rows.specs.declared.State.the-variants.{Free, Going, Asking}
 use Rattle.rows.specs.declared.Terms.{Terms}
 use Rattle.rows.specs.Numbers.{queues, maxWeight, maxLength}
 use Rattle.rows.specs.Row.{isFree, isAsking}
-use Rattle.rows.specs.Orderly.{outside, fitsCeiling, limitOutside, ruleOutside}
+use Rattle.rows.specs.Orderly.{outside, fitsCeiling, limitOutside, ruleOutside, defaultOutside}
 use Rattle.head.specs.declared.Event.{Event}
 use Rattle.head.specs.declared.Event.the-variants.{Fresh, Join, Leave, Reweight, Length, Grant, Return}
 use Rattle.head.specs.declared.Head.{Head}
 use Rattle.head.specs.declared.Refusal.{Refusal}
-use Rattle.head.specs.declared.Refusal.the-variants.{Unsound, QueueOutside, WeightOutside, LengthOutside, SliceOut, NotHolder, RowTaken, NotAsking, LagBelow, TicksOutside, TableEmpty, CeilingPassed, LimitOutside, RowFree, RuleOutside}
+use Rattle.head.specs.declared.Refusal.the-variants.{Unsound, QueueOutside, WeightOutside, LengthOutside, SliceOut, NotHolder, RowTaken, NotAsking, LagBelow, TicksOutside, TableEmpty, CeilingPassed, LimitOutside, RowFree, RuleOutside, DefaultOutside}
 use Rattle.head.specs.declared.judging.Verdict.{Verdict}
 use Rattle.head.specs.declared.judging.Verdict.the-variants.{Fine, Refused}
 use Rattle.head.specs.Head.{isEmpty, reachedBy}
@@ -84,9 +84,11 @@ passedAs (Asking q) weight = not (fitsCeiling weight q)
 unfoldable pub ceilingPassed : Row → Bool
 ceilingPassed r = passedAs (r .state) (r .weight)
 
--- 1 "the table isn't sound"; 5 "a slice is out (join, leave, reweight, length, grant)"; 11 "grant: table empty"; 14 "fresh: slice limit outside 1 to 100"; 23 "another rule number ... after 14"
+-- 1 "the table isn't sound"; 5 "a slice is out (join, leave, reweight, length, grant)"; 11 "grant: table empty"; 14 "fresh: slice limit outside 1 to 100"; 23 "another rule number ... after 14"; 25
+-- "a default other than 8 or 20 ... after 23"
 abbrev pub freshChecks : Terms → List Check
-freshChecks terms = (LimitOutside when limitOutside terms) ∷ (RuleOutside when ruleOutside terms) ∷ []
+freshChecks terms =
+    (LimitOutside when limitOutside terms) ∷ (RuleOutside when ruleOutside terms) ∷ (DefaultOutside when defaultOutside terms) ∷ []
 
 abbrev pub returnChecks : Bool → Head → ℕ → ℕ → List Check
 returnChecks sound h queue used =

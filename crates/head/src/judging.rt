@@ -1,7 +1,7 @@
 // What each event is refused for, in its order: the first refusal that applies answers.
 ghost use mathlib.Core.Path.{_≡_};
 ghost use mathlib.Core.Bool.{true};
-ghost use Rattle.rows.specs.Orderly.{OrderlyRow, limitOutside, ruleOutside};
+ghost use Rattle.rows.specs.Orderly.{OrderlyRow, limitOutside, ruleOutside, defaultOutside};
 ghost use Rattle.head.specs.declared.Event.the-variants.{Grant, Join, Leave, Length, Reweight};
 ghost use Rattle.head.specs.Answers.{refusalNumber};
 ghost use Rattle.head.specs.Judged as judged;
@@ -44,6 +44,7 @@ impl Refusal {
             Refusal::LimitOutside => 14,
             Refusal::RowFree => 31,
             Refusal::RuleOutside => 23,
+            Refusal::DefaultOutside => 25,
         }
     }
 }
@@ -195,6 +196,7 @@ fn fresh_verdict(terms: Terms) -> Verdict
     Verdict::Fine
         .or(Refusal::LimitOutside, limit_outside(terms))
         .or(Refusal::RuleOutside, rule_outside(terms))
+        .or(Refusal::DefaultOutside, default_outside(terms))
 }
 
 // What speaks against telling where a row stands.
@@ -252,6 +254,16 @@ pub(crate) fn rule_outside(terms: Terms) -> bool
     ensures { λ r. ⌜ r ≡ ruleOutside terms ⌝ }
 {
     outside(terms.rule, 1, rows::MAX_RULE)
+}
+
+pub(crate) fn default_outside(terms: Terms) -> bool
+    ensures { λ r. ⌜ r ≡ defaultOutside terms ⌝ }
+{
+    let default = terms.default;
+    if default == rows::DEFAULT_LENGTH {
+        return false;
+    }
+    default != rows::FORMER_DEFAULT
 }
 
 fn ticks_outside(ticks: u64, used: u64) -> bool

@@ -46,6 +46,7 @@ pub enum Refusal {
     LimitOutside,
     RowFree,
     RuleOutside,
+    DefaultOutside,
 }
 
 pub enum Answer {

@@ -8,6 +8,7 @@ ghost use Rattle.head.specs.Head as heads;
 ghost use Rattle.head.specs.Judged as judged;
 ghost use Rattle.head.specs.Slice as slices;
 use crate::Head;
+use crate::judging::default_outside;
 use crate::judging::limit_outside;
 use crate::judging::rule_outside;
 use rows::Request;
@@ -32,7 +33,10 @@ fn terms_allowed(terms: Terms) -> bool
     if limit_outside(terms) {
         return false;
     }
-    !rule_outside(terms)
+    if rule_outside(terms) {
+        return false;
+    }
+    !default_outside(terms)
 }
 
 // Deadlines are to stay within the ceiling, so that positions do.

@@ -3,7 +3,6 @@
 use mathlib.Core.Path.{_≡_, refl, sym, ap, subst, _∙_}
 use mathlib.Core.Bool.{Bool, true, false, cond}
 use mathlib.Core.List.{List, [], _∷_, _++_, append-nil}
-use mathlib.Core.Logic.{_⊎_}
 use mathlib.Core.Option.{Option, none, some}
 use Prim.Native.Nat.{ℕ, suc, _*_, _≤_, _<_}
 use native.Mathlib.Omega.{arith}
@@ -13,12 +12,13 @@ use borrow.Author.Tests.{le-leb, leb-true, eqb-true, eqb-false, ne-eqb}
 use Rattle.laws.specs.Lists.{all}
 use Rattle.laws.proofs.Tests.{and-left, and-right}
 use Rattle.rows.specs.declared.Terms.{Terms}
+use Rattle.rows.specs.Numbers.{defaultLength}
 use Rattle.head.specs.declared.Event.{Event}
 use Rattle.head.specs.declared.Event.the-variants.{Fresh, Join, Leave, Reweight, Length, Grant, Return}
 use Rattle.head.specs.declared.Line.the-variants.{Known, Broken}
 use Rattle.lines.specs.Cut.{space, part, cutAt, before, fieldsOf}
 use Rattle.lines.specs.Decimal.{digit, decimal, digits}
-use Rattle.lines.specs.Grammar.{letterS, letterJ, letterL, letterW, letterR, letterG, letterU, returnOf, eventOf, both, numbers, eventIf, eventNamed, eventIn, readLine, spaced, mark, lineOf, Small, Written, WrittenAs}
+use Rattle.lines.specs.Grammar.{letterS, letterJ, letterL, letterW, letterR, letterG, letterU, returnOf, freshOf, eventOf, both, numbers, eventIf, eventNamed, eventIn, readLine, spaced, mark, lineOf, Small, Written, FreshAs, in-full, of-rule, of-limit, WrittenAs}
 use Rattle.lines.proofs.Cutting.{Unmarked, cut-unmarked, cut-first}
 use Rattle.lines.proofs.Decimals.{digit-low}
 use Rattle.lines.proofs.Decimal.{all-digits, few-digits, decimal-digits, decimal-only}
@@ -71,7 +71,7 @@ reads k ns c h l =
 
 written-back : (e : Event) → Written e → readLine (lineOf e) ≡ Known e
 unfolding lineOf Written eventOf before
-written-back (Fresh terms) h = reads letterS (terms .limit ∷ terms .rule ∷ []) refl (h .0, (h .1, tt)) (omega arith)
+written-back (Fresh terms) h = reads letterS (terms .limit ∷ terms .rule ∷ terms .default ∷ []) refl (small-three h) (omega arith)
 written-back (Join queue weight length) h = reads letterJ (queue ∷ weight ∷ length ∷ []) refl (small-three h) (omega arith)
 written-back (Leave queue) h = reads letterL (queue ∷ []) refl (h, tt) (omega arith)
 written-back (Reweight queue weight length) h = reads letterW (queue ∷ weight ∷ length ∷ []) refl (small-three h) (omega arith)
@@ -80,17 +80,22 @@ written-back Grant h = reads letterG [] refl tt (omega arith)
 written-back (Return queue used false) h = reads letterU (queue ∷ used ∷ 0 ∷ []) refl (h .0, (h .1, (omega arith, tt))) (omega arith)
 written-back (Return queue used true) h = reads letterU (queue ∷ used ∷ 1 ∷ []) refl (h .0, (h .1, (omega arith, tt))) (omega arith)
 
--- a fresh table of rule 1, said without it
-short-back : (terms : Terms) → Small (terms .limit) → terms .rule ≡ 1 → readLine (letterS ∷ spaced (terms .limit ∷ [])) ≡ Known (Fresh terms)
-unfolding eventOf before
-short-back terms h is =
-    reads letterS (terms .limit ∷ []) refl (h, tt) (omega arith) ∙ ap (λ (rule : ℕ). Known (Fresh (record { limit = terms .limit; rule = rule }))) (sym is)
+-- a fresh table said by fewer numbers
+fresh-back : (terms : Terms) (l : List ℕ) → Written (Fresh terms) → FreshAs terms l → readLine l ≡ Known (Fresh terms)
+unfolding eventOf before Written
+fresh-back terms l h (in-full is) = rw is (written-back (Fresh terms) h)
+fresh-back terms l h (of-rule default is) =
+    rw is
+    (reads letterS (terms .limit ∷ terms .rule ∷ []) refl (h .0, (h .1, tt)) (omega arith) ∙ ap (freshOf (terms .limit) (terms .rule)) (sym default))
+fresh-back terms l h (of-limit default rule is) =
+    rw is
+    (reads letterS (terms .limit ∷ []) refl (h .0, tt) (omega arith) ∙ ap (λ (n : ℕ). freshOf (terms .limit) n defaultLength) (sym rule)
+    ∙ ap (freshOf (terms .limit) (terms .rule)) (sym default))
 
 -- every line that says an event reads back as it
 pub reads-back : (e : Event) (l : List ℕ) → Written e → WrittenAs e l → readLine l ≡ Known e
 unfolding Written
-reads-back (Fresh terms) l h (_⊎_.inl is) = rw is (written-back (Fresh terms) h)
-reads-back (Fresh terms) l h (_⊎_.inr is) = rw (is .1) (short-back terms (h .0) (is .0))
+reads-back (Fresh terms) l h is = fresh-back terms l h is
 reads-back (Join queue weight length) l h is = rw is (written-back (Join queue weight length) h)
 reads-back (Leave queue) l h is = rw is (written-back (Leave queue) h)
 reads-back (Reweight queue weight length) l h is = rw is (written-back (Reweight queue weight length) h)
@@ -163,8 +168,8 @@ event-only k (a ∷ []) e s h = fresh (eqb k letterS) refl h
     leave true t h = let x : Leave a ≡ e = cc in rw (← x, eqb-true k letterL t) (refl, s .0)
     leave false t h = absurd (never e h)
 
-    fresh : (t : Bool) → eqb k letterS ≡ t → cond t (Known (Fresh (record { limit = a; rule = 1 }))) (cond (eqb k letterL) (Known (Leave a)) Broken) ≡ Known e → Is k (a ∷ []) e
-    fresh true t h = let x : Fresh (record { limit = a; rule = 1 }) ≡ e = cc in rw (← x, eqb-true k letterS t) (_⊎_.inr (refl, refl), (s .0, omega arith))
+    fresh : (t : Bool) → eqb k letterS ≡ t → cond t (freshOf a 1 defaultLength) (cond (eqb k letterL) (Known (Leave a)) Broken) ≡ Known e → Is k (a ∷ []) e
+    fresh true t h = let x : Fresh (record { limit = a; rule = 1; default = defaultLength }) ≡ e = cc in rw (← x, eqb-true k letterS t) (of-limit refl refl refl, (s .0, omega arith, omega arith))
     fresh false t h = leave (eqb k letterL) refl h
 event-only k (a ∷ b ∷ []) e s h = fresh (eqb k letterS) refl h
   where
@@ -172,8 +177,8 @@ event-only k (a ∷ b ∷ []) e s h = fresh (eqb k letterS) refl h
     size true t h = let x : Length a b ≡ e = cc in rw (← x, eqb-true k letterR t) (refl, (s .0, s .1 .0))
     size false t h = absurd (never e h)
 
-    fresh : (t : Bool) → eqb k letterS ≡ t → cond t (Known (Fresh (record { limit = a; rule = b }))) (cond (eqb k letterR) (Known (Length a b)) Broken) ≡ Known e → Is k (a ∷ b ∷ []) e
-    fresh true t h = let x : Fresh (record { limit = a; rule = b }) ≡ e = cc in rw (← x, eqb-true k letterS t) (_⊎_.inl refl, (s .0, s .1 .0))
+    fresh : (t : Bool) → eqb k letterS ≡ t → cond t (freshOf a b defaultLength) (cond (eqb k letterR) (Known (Length a b)) Broken) ≡ Known e → Is k (a ∷ b ∷ []) e
+    fresh true t h = let x : Fresh (record { limit = a; rule = b; default = defaultLength }) ≡ e = cc in rw (← x, eqb-true k letterS t) (of-rule refl refl, (s .0, s .1 .0, omega arith))
     fresh false t h = size (eqb k letterR) refl h
 event-only k (a ∷ b ∷ c ∷ []) e s h = join (eqb k letterJ) refl h
   where
@@ -181,15 +186,19 @@ event-only k (a ∷ b ∷ c ∷ []) e s h = join (eqb k letterJ) refl h
     early true t u h = let x : Return a b (eqb c 1) ≡ e = cc in rw (← x, u, marked c (leb-true c 1 t)) (refl, (s .0, s .1 .0))
     early false t u h = absurd (never e h)
 
-    returning : (t : Bool) → eqb k letterU ≡ t → cond t (returnOf a b c) Broken ≡ Known e → Is k (a ∷ b ∷ c ∷ []) e
-    returning true t h = early (leb c 1) refl (eqb-true k letterU t) h
-    returning false t h = absurd (never e h)
+    fresh : (t : Bool) → eqb k letterS ≡ t → cond t (freshOf a b c) Broken ≡ Known e → Is k (a ∷ b ∷ c ∷ []) e
+    fresh true t h = let x : Fresh (record { limit = a; rule = b; default = c }) ≡ e = cc in rw (← x, eqb-true k letterS t) (in-full refl, three-small s)
+    fresh false t h = absurd (never e h)
 
-    reweight : (t : Bool) → eqb k letterW ≡ t → cond t (Known (Reweight a b c)) (cond (eqb k letterU) (returnOf a b c) Broken) ≡ Known e → Is k (a ∷ b ∷ c ∷ []) e
+    returning : (t : Bool) → eqb k letterU ≡ t → cond t (returnOf a b c) (cond (eqb k letterS) (freshOf a b c) Broken) ≡ Known e → Is k (a ∷ b ∷ c ∷ []) e
+    returning true t h = early (leb c 1) refl (eqb-true k letterU t) h
+    returning false t h = fresh (eqb k letterS) refl h
+
+    reweight : (t : Bool) → eqb k letterW ≡ t → cond t (Known (Reweight a b c)) (cond (eqb k letterU) (returnOf a b c) (cond (eqb k letterS) (freshOf a b c) Broken)) ≡ Known e → Is k (a ∷ b ∷ c ∷ []) e
     reweight true t h = let x : Reweight a b c ≡ e = cc in rw (← x, eqb-true k letterW t) (refl, three-small s)
     reweight false t h = returning (eqb k letterU) refl h
 
-    join : (t : Bool) → eqb k letterJ ≡ t → cond t (Known (Join a b c)) (cond (eqb k letterW) (Known (Reweight a b c)) (cond (eqb k letterU) (returnOf a b c) Broken)) ≡ Known e
+    join : (t : Bool) → eqb k letterJ ≡ t → cond t (Known (Join a b c)) (cond (eqb k letterW) (Known (Reweight a b c)) (cond (eqb k letterU) (returnOf a b c) (cond (eqb k letterS) (freshOf a b c) Broken))) ≡ Known e
         → Is k (a ∷ b ∷ c ∷ []) e
     join true t h = let x : Join a b c ≡ e = cc in rw (← x, eqb-true k letterJ t) (refl, three-small s)
     join false t h = reweight (eqb k letterW) refl h
@@ -221,7 +230,7 @@ only-lines l e h = by (leb (length l) 40) h
 -- no line of an event is longer than 40 bytes: the longest that reads at all has 19
 pub lines-short : (e : Event) → Written e → length (lineOf e) ≤ 19
 unfolding lineOf Written
-lines-short (Fresh terms) h = omega (arith, spaced-length (terms .limit ∷ terms .rule ∷ []) (h .0, (h .1, tt)))
+lines-short (Fresh terms) h = omega (arith, spaced-length (terms .limit ∷ terms .rule ∷ terms .default ∷ []) (small-three h))
 lines-short (Join queue weight size) h = omega (arith, spaced-length (queue ∷ weight ∷ size ∷ []) (small-three h))
 lines-short (Leave queue) h = omega (arith, spaced-length (queue ∷ []) (h, tt))
 lines-short (Reweight queue weight size) h = omega (arith, spaced-length (queue ∷ weight ∷ size ∷ []) (small-three h))

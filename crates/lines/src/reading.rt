@@ -3,10 +3,11 @@ ghost use mathlib.Core.Path.{_≡_};
 ghost use mathlib.Core.List.{[], _∷_};
 ghost use Prim.Native.Nat.{_≤_};
 ghost use lib.ListN.{length};
-ghost use Rattle.lines.specs.Grammar.{eventOf, readLine, returnOf};
+ghost use Rattle.lines.specs.Grammar.{eventOf, freshOf, readLine, returnOf};
 ghost use Rattle.lines.specs.Reading.{fieldAt, finishedAs, zeroLeads};
 use share::Event;
 use share::Line;
+use share::Table;
 use share::Terms;
 
 // What a field is: a decimal and the place of its end, or none.
@@ -117,13 +118,23 @@ fn with_none(letter: u8) -> Line
     Line::Broken
 }
 
+fn fresh_of(limit: u64, rule: u64, default: u64) -> Line
+    ensures { λ r. ⌜ r ≡ freshOf limit rule default ⌝ }
+{
+    Line::Known(Event::Fresh {
+        terms: Terms {
+            limit,
+            rule,
+            default,
+        },
+    })
+}
+
 fn with_one(letter: u8, a: u64) -> Line
     ensures { λ r. ⌜ r ≡ eventOf letter (a ∷ []) ⌝ }
 {
     if letter == b'S' {
-        return Line::Known(Event::Fresh {
-            terms: Terms { limit: a, rule: 1 },
-        });
+        return fresh_of(a, 1, Table::DEFAULT_LENGTH);
     }
     if letter == b'L' {
         return Line::Known(Event::Leave { queue: a });
@@ -135,9 +146,7 @@ fn with_two(letter: u8, a: u64, b: u64) -> Line
     ensures { λ r. ⌜ r ≡ eventOf letter (a ∷ b ∷ []) ⌝ }
 {
     if letter == b'S' {
-        return Line::Known(Event::Fresh {
-            terms: Terms { limit: a, rule: b },
-        });
+        return fresh_of(a, b, Table::DEFAULT_LENGTH);
     }
     if letter == b'R' {
         return Line::Known(Event::Length {
@@ -167,6 +176,9 @@ fn with_three(letter: u8, a: u64, b: u64, c: u64) -> Line
     }
     if letter == b'U' {
         return returned(a, b, c);
+    }
+    if letter == b'S' {
+        return fresh_of(a, b, c);
     }
     Line::Broken
 }

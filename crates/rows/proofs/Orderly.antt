@@ -1,11 +1,11 @@
 -- What a sound table asks of one row and of the terms is decided by its test: for each notion of specs/Orderly a law from the test to the record and
 -- one back.
-use mathlib.Core.Path.{_≡_, ap}
+use mathlib.Core.Path.{_≡_, refl, ap}
 use mathlib.Core.Bool.{true, false, not}
 use mathlib.Core.Logic.{_⊎_, ⊎-elim}
 use Prim.Native.Nat.{ℕ, _≤_, _<_}
 use native.Mathlib.Omega.{arith}
-use lib.Dec.{ltb}
+use lib.Dec.{ltb, eqb}
 use borrow.Author.Tests.{le-leb, lt-ltb, le-ltb, leb-true, ltb-true, ltb-false, eqb-true, eq-eqb, not-true}
 use Rattle.laws.proofs.Tests.{either, every-each, each-every, or-left, or-right, or-second, or-neither, clash}
 use Rattle.rows.specs.declared.Request.{Request}
@@ -13,8 +13,8 @@ use Rattle.rows.specs.declared.Row.{Row}
 use Rattle.rows.specs.declared.State.{State}
 use Rattle.rows.specs.declared.State.the-variants.{Free, Going, Asking}
 use Rattle.rows.specs.declared.Terms.{Terms}
-use Rattle.rows.specs.Numbers.{maxLimit, maxRule}
-use Rattle.rows.specs.Orderly.{outside, InRange, inRange, OrderlyRequest, orderlyRequest, OrderlyAs, orderlyAs, OrderlyRow, orderlyRow, FitsCeiling, fitsCeiling, Allowed, limitOutside, ruleOutside, allowed}
+use Rattle.rows.specs.Numbers.{maxLength, maxLimit, maxRule, defaultLength, formerDefault}
+use Rattle.rows.specs.Orderly.{outside, InRange, inRange, OrderlyRequest, orderlyRequest, OrderlyAs, orderlyAs, OrderlyRow, orderlyRow, FitsCeiling, fitsCeiling, Allowed, limitOutside, ruleOutside, defaultOutside, allowed}
 
 -- a number is outside exactly when it is below or above the bounds
 module _ (low high n : ℕ) where
@@ -113,15 +113,45 @@ pub within-rule : (terms : Terms) → 1 ≤ terms .rule → terms .rule ≤ maxR
 unfolding ruleOutside
 within-rule terms low high = inside-not 1 maxRule (terms .rule) low high
 
+pub default-within : (terms : Terms) → defaultOutside terms ≡ false → (terms .default ≡ defaultLength) ⊎ (terms .default ≡ formerDefault)
+unfolding defaultOutside
+default-within terms e = by (either (eqb (terms .default) defaultLength)) (either (eqb (terms .default) formerDefault))
+  where
+    by : (eqb (terms .default) defaultLength ≡ true) ⊎ (eqb (terms .default) defaultLength ≡ false) → (eqb (terms .default) formerDefault ≡ true) ⊎ (eqb (terms .default) formerDefault ≡ false) → (terms .default ≡ defaultLength) ⊎ (terms .default ≡ formerDefault)
+    by (_⊎_.inl a) b = _⊎_.inl (eqb-true _ _ a)
+    by (_⊎_.inr a) (_⊎_.inl b) = _⊎_.inr (eqb-true _ _ b)
+    by (_⊎_.inr a) (_⊎_.inr b) = absurd (clash (ap not (or-neither a b)) e)
+
+pub within-default : (terms : Terms) → (terms .default ≡ defaultLength) ⊎ (terms .default ≡ formerDefault) → defaultOutside terms ≡ false
+unfolding defaultOutside
+within-default terms (_⊎_.inl a) = rw (eq-eqb _ _ a) refl
+within-default terms (_⊎_.inr b) = ap not (or-second (eqb (terms .default) defaultLength) (eq-eqb _ _ b))
+
+-- whatever is allowed is the length of a request
+pub default-low : {terms : Terms} → Allowed terms → 1 ≤ terms .default
+default-low h = ⊎-elim (λ e. omega arith) (λ e. omega arith) (h .default-known)
+
+pub default-high : {terms : Terms} → Allowed terms → terms .default ≤ maxLength
+default-high h = ⊎-elim (λ e. omega arith) (λ e. omega arith) (h .default-known)
+
 pub allowed-says : (terms : Terms) → allowed terms ≡ true → Allowed terms
 unfolding allowed
 allowed-says terms e =
     let tests = every-each _ e in
     let limit = limit-within terms (not-true _ (tests .0)) in
     let rule = rule-within terms (not-true _ (tests .1 .0)) in
-    record { limit-low = limit .0; limit-high = limit .1; rule-low = rule .0; rule-high = rule .1 }
+    record {
+      limit-low = limit .0;
+      limit-high = limit .1;
+      rule-low = rule .0;
+      rule-high = rule .1;
+      default-known = default-within terms (not-true _ (tests .1 .1 .0));
+    }
 
 pub says-allowed : (terms : Terms) → Allowed terms → allowed terms ≡ true
 unfolding allowed
 says-allowed terms h =
-    each-every _ (ap not (within-limit terms (h .limit-low) (h .limit-high)), (ap not (within-rule terms (h .rule-low) (h .rule-high)), tt))
+    each-every _ (
+      ap not (within-limit terms (h .limit-low) (h .limit-high)),
+      (ap not (within-rule terms (h .rule-low) (h .rule-high)), (ap not (within-default terms (h .default-known)), tt)),
+    )

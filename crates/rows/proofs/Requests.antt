@@ -13,21 +13,22 @@ use Rattle.rows.specs.declared.Row.{Row}
 use Rattle.rows.specs.declared.State.{State}
 use Rattle.rows.specs.declared.State.the-variants.{Free, Going, Asking}
 use Rattle.rows.specs.declared.Terms.{Terms}
-use Rattle.rows.specs.Numbers.{ceiling, maxLength, lengthMeant, defaultOf, stepOf}
+use Rattle.rows.specs.Numbers.{ceiling, maxLength, lengthMeant, stepOf}
 use Rattle.rows.specs.Row.{isAsking, positionOf, deadlineOf, chargedTo}
-use Rattle.rows.specs.Orderly.{InRange, OrderlyRequest, OrderlyAs, OrderlyRow}
+use Rattle.rows.specs.Orderly.{InRange, OrderlyRequest, OrderlyAs, OrderlyRow, Allowed}
+use Rattle.rows.proofs.Orderly.{default-low, default-high}
 use Rattle.rows.specs.Requests.{opened, entering, nextSet, rowNextSet, servedTo, served, charged}
 
 -- "a length of 0 in a call stands for the house default": whatever a call may give, a request's length is in range
-pub meant-low : (terms : Terms) (length : ℕ) → 1 ≤ lengthMeant (defaultOf terms) length
-unfolding lengthMeant defaultOf
-meant-low terms zero = omega arith
-meant-low terms (suc n) = simp (ne-eqb (suc n) 0 (λ e. omega arith)) (omega arith)
+pub meant-low : (terms : Terms) (length : ℕ) → Allowed terms → 1 ≤ lengthMeant terms length
+unfolding lengthMeant
+meant-low terms zero allows = default-low allows
+meant-low terms (suc n) allows = simp (ne-eqb (suc n) 0 (λ e. omega arith)) (omega arith)
 
-pub meant-high : (terms : Terms) (length : ℕ) → length ≤ maxLength → lengthMeant (defaultOf terms) length ≤ maxLength
-unfolding lengthMeant defaultOf
-meant-high terms zero h = omega arith
-meant-high terms (suc n) h = simp (ne-eqb (suc n) 0 (λ e. omega arith)) h
+pub meant-high : (terms : Terms) (length : ℕ) → Allowed terms → length ≤ maxLength → lengthMeant terms length ≤ maxLength
+unfolding lengthMeant
+meant-high terms zero allows h = default-high allows
+meant-high terms (suc n) allows h = simp (ne-eqb (suc n) 0 (λ e. omega arith)) h
 
 opened-orderly : (w p length : ℕ) → 1 ≤ length → length ≤ maxLength → OrderlyRequest w p (opened p length)
 unfolding opened positionOf
@@ -41,27 +42,28 @@ opened-orderly w p length low high =
       stands = omega arith;
     }
 
-pub entering-orderly : (terms : Terms) (w p length : ℕ) → InRange w p → length ≤ maxLength → OrderlyRow (entering w p (lengthMeant (defaultOf terms) length))
+pub entering-orderly : (terms : Terms) (w p length : ℕ) → Allowed terms → InRange w p → length ≤ maxLength → OrderlyRow (entering w p (lengthMeant terms length))
 unfolding entering
-entering-orderly terms w p length range high = (range, opened-orderly w p (lengthMeant (defaultOf terms) length) (meant-low terms length) (meant-high terms length high))
+entering-orderly terms w p length allows range high =
+    (range, opened-orderly w p (lengthMeant terms length) (meant-low terms length allows) (meant-high terms length allows high))
 
 pub asking-range : (s : State) (w p : ℕ) → isAsking s ≡ true → OrderlyAs s w p → InRange w p
 asking-range Free w p e h = absurd (clash e refl)
 asking-range Going w p e h = h
 asking-range (Asking q) w p e h = h .0
 
-pub next-orderly : (terms : Terms) (s : State) (w p length : ℕ) → length ≤ maxLength → OrderlyAs s w p → OrderlyAs (nextSet s (lengthMeant (defaultOf terms) length)) w p
+pub next-orderly : (terms : Terms) (s : State) (w p length : ℕ) → Allowed terms → length ≤ maxLength → OrderlyAs s w p → OrderlyAs (nextSet s (lengthMeant terms length)) w p
 unfolding positionOf
-next-orderly terms Free w p length high h = h
-next-orderly terms Going w p length high h = h
-next-orderly terms (Asking q) w p length high h =
+next-orderly terms Free w p length allows high h = h
+next-orderly terms Going w p length allows high h = h
+next-orderly terms (Asking q) w p length allows high h =
     let r = h .1 in (
       h .0,
       record {
         length-low = r .length-low;
         length-high = r .length-high;
-        next-low = meant-low terms length;
-        next-high = meant-high terms length high;
+        next-low = meant-low terms length allows;
+        next-high = meant-high terms length allows high;
         served-less = r .served-less;
         stands = r .stands;
       },

@@ -22,12 +22,16 @@ maxTotal = 1024
 abbrev pub maxLength : ℕ
 maxLength = 10000
 
--- "... a length of 0 in a call stands for the house default of 20."
+-- T-09, "Length 0 shall mean 8 ... and a table may be made in a 20-tick mode for old day lists."
 abbrev pub defaultLength : ℕ
-defaultLength = 20
+defaultLength = 8
 
-unfoldable pub lengthMeant : ℕ → ℕ → ℕ
-lengthMeant default length = cond (eqb length 0) default length
+abbrev pub formerDefault : ℕ
+formerDefault = 20
+
+-- "a length of 0 in a call stands for the house default": the one that the table was made with
+unfoldable pub lengthMeant : Terms → ℕ → ℕ
+lengthMeant terms length = cond (eqb length 0) (terms .default) length
 
 -- "Slice limit 1 to 100 ticks, fixed when a table is made."
 abbrev pub maxLimit : ℕ
@@ -37,13 +41,9 @@ maxLimit = 100
 abbrev pub maxRule : ℕ
 maxRule = 2
 
--- what the table of a refused fresh is made with
+-- what the table of a refused fresh is made with; T-09, "8 ... in the empty table of a refusal"
 abbrev pub leastTerms : Terms
-leastTerms = record { limit = 1; rule = 1 }
-
--- the default length of a table made with these terms
-unfoldable pub defaultOf : Terms → ℕ
-defaultOf terms = defaultLength
+leastTerms = record { limit = 1; rule = 1; default = defaultLength }
 
 -- "Positions are whole numbers, 720,720 to one unit of virtual time."
 abbrev pub unit : ℕ

@@ -2,6 +2,7 @@
 -- person reads. `proofs/Orderly.antt` has a law each way.
 use mathlib.Core.Path.{_≡_}
 use mathlib.Core.Bool.{Bool, not, _||_}
+use mathlib.Core.Logic.{_⊎_}
 use mathlib.Core.List.{[], _∷_}
 use Prim.Native.Nat.{ℕ, _-_, _≤_, _<_, min}
 use lib.Dec.{leb, ltb, eqb}
@@ -11,7 +12,7 @@ use Rattle.rows.specs.declared.Row.{Row}
 use Rattle.rows.specs.declared.State.{State}
 use Rattle.rows.specs.declared.State.the-variants.{Free, Going, Asking}
 use Rattle.rows.specs.declared.Terms.{Terms}
-use Rattle.rows.specs.Numbers.{maxWeight, maxLength, maxLimit, maxRule, ceiling}
+use Rattle.rows.specs.Numbers.{maxWeight, maxLength, maxLimit, maxRule, defaultLength, formerDefault, ceiling}
 use Rattle.rows.specs.Row.{positionOf, deadlineOf}
 
 -- outside a range, its ends belonging to it
@@ -85,6 +86,8 @@ pub record Allowed (terms : Terms) : Type 0 where
   -- T-06, "rule 1 or 2"
   pub rule-low : 1 ≤ terms .rule
   pub rule-high : terms .rule ≤ maxRule
+  -- T-09, "a default other than 8 or 20 is 25"
+  pub default-known : (terms .default ≡ defaultLength) ⊎ (terms .default ≡ formerDefault)
 
 unfoldable pub limitOutside : Terms → Bool
 limitOutside terms = outside 1 maxLimit (terms .limit)
@@ -92,5 +95,8 @@ limitOutside terms = outside 1 maxLimit (terms .limit)
 unfoldable pub ruleOutside : Terms → Bool
 ruleOutside terms = outside 1 maxRule (terms .rule)
 
+unfoldable pub defaultOutside : Terms → Bool
+defaultOutside terms = not (eqb (terms .default) defaultLength || eqb (terms .default) formerDefault)
+
 unfoldable pub allowed : Terms → Bool
-allowed terms = every (not (limitOutside terms) ∷ not (ruleOutside terms) ∷ [])
+allowed terms = every (not (limitOutside terms) ∷ not (ruleOutside terms) ∷ not (defaultOutside terms) ∷ [])

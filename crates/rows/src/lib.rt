@@ -27,7 +27,6 @@ pub use ranges::request_orderly;
 pub use ranges::stands;
 pub use serving::charged;
 pub use serving::charged_to;
-pub use serving::default_of;
 pub use serving::length_meant;
 pub use serving::next_set;
 pub use serving::opened;
@@ -43,7 +42,10 @@ pub const MAX_TOTAL: u64 = QUEUES * MAX_WEIGHT;
 
 pub const MAX_LENGTH: u64 = 10_000;
 
-pub const DEFAULT_LENGTH: u64 = 20;
+// What a length of 0 stands for: 8, or 20 in a table made for old day lists.
+pub const DEFAULT_LENGTH: u64 = 8;
+
+pub const FORMER_DEFAULT: u64 = 20;
 
 pub const MAX_LIMIT: u64 = 100;
 
@@ -59,6 +61,7 @@ pub const UNIT: u64 = 720_720;
 pub struct Terms {
     pub limit: u64,
     pub rule: u64,
+    pub default: u64,
 }
 
 // An open request: where it opened, its length, the ticks served of it, and the length of the one after it.

@@ -2,7 +2,7 @@
 ghost use mathlib.Core.Path.{_≡_};
 ghost use Prim.Native.Nat.{_+_, _^_, _≤_, _<_};
 ghost use Rattle.rows.specs.Fits as fits;
-ghost use Rattle.rows.specs.Numbers.{ceiling, defaultOf, lengthMeant, maxLength};
+ghost use Rattle.rows.specs.Numbers.{ceiling, lengthMeant, maxLength};
 ghost use Rattle.rows.specs.Requests as requests;
 ghost use Rattle.rows.specs.Row.{deadlineOf, chargedTo};
 use crate::Request;
@@ -11,19 +11,12 @@ use crate::State;
 use crate::Terms;
 use crate::step_of;
 
-// The default length of a table made with these terms: the house default.
-pub fn default_of(terms: Terms) -> u64
-    ensures { λ r. ⌜ r ≡ defaultOf terms ⌝ }
-{
-    crate::DEFAULT_LENGTH
-}
-
-// A length of 0 stands for the default.
-pub fn length_meant(default: u64, length: u64) -> u64
-    ensures { λ r. ⌜ r ≡ lengthMeant default length ⌝ }
+// A length of 0 stands for the default that the table was made with.
+pub fn length_meant(terms: Terms, length: u64) -> u64
+    ensures { λ r. ⌜ r ≡ lengthMeant terms length ⌝ }
 {
     if length == 0 {
-        return default;
+        return terms.default;
     }
     length
 }

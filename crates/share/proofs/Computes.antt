@@ -1,9 +1,9 @@
 -- All that a step and a lag are made of, under one name, so that a proof by computation unfolds that name and not ninety.
 use Rattle.laws.specs.Difference.{_⊖_}
 use Rattle.laws.specs.Lists.{every}
-use Rattle.rows.specs.Numbers.{lengthMeant, defaultOf, stepOf}
+use Rattle.rows.specs.Numbers.{lengthMeant, stepOf}
 use Rattle.rows.specs.Order.{goesBefore, bidOf, bid}
-use Rattle.rows.specs.Orderly.{inRange, orderlyRequest, orderlyRow, outside, fitsCeiling, limitOutside, ruleOutside, allowed, sliceMost, sliceLeast}
+use Rattle.rows.specs.Orderly.{inRange, orderlyRequest, orderlyRow, outside, fitsCeiling, limitOutside, ruleOutside, defaultOutside, allowed, sliceMost, sliceLeast}
 use Rattle.rows.specs.Requests.{opened, entering, rowNextSet, servedTo, charged}
 use Rattle.rows.specs.Row.{positionOf, deadlineOf, chargedTo, weightIn, momentIn}
 use Rattle.rows.specs.Virtual.{standingAt, reached, eligibleAt, readyAt}
@@ -24,5 +24,5 @@ use Rattle.share.specs.Sound.{orderly, ready, calm, sound}
 use Rattle.share.specs.Table.{row, trueTotal, trueSum, placed, withSlice}
 
 unfoldable pub stepping : Table → Event → Reply
-unfolding every _⊖_ lengthMeant defaultOf stepOf positionOf deadlineOf chargedTo weightIn momentIn standingAt reached readyAt eligibleAt outside inRange orderlyRequest orderlyRow fitsCeiling sliceMost sliceLeast limitOutside ruleOutside allowed opened entering rowNextSet servedTo charged bidOf bid goesBefore emptyHead isEmpty entry sliced summed restAfter orderlyRest orderlyHolder sliceFor lagOf lagUnit queueOutside lengthOutside notHolder rowTaken notAsking lagBelow ticksOutside ceilingPassed checksFor row trueTotal trueSum placed withSlice orderly ready calm sound lagsInto freed released eligible deadline precedes choice emptyTable joined leaving left reweighted lengthSet chosen sliceGiven granted returned call checksOf step
+unfolding every _⊖_ lengthMeant stepOf positionOf deadlineOf chargedTo weightIn momentIn standingAt reached readyAt eligibleAt outside inRange orderlyRequest orderlyRow fitsCeiling sliceMost sliceLeast limitOutside ruleOutside defaultOutside allowed opened entering rowNextSet servedTo charged bidOf bid goesBefore emptyHead isEmpty entry sliced summed restAfter orderlyRest orderlyHolder sliceFor lagOf lagUnit queueOutside lengthOutside notHolder rowTaken notAsking lagBelow ticksOutside ceilingPassed checksFor row trueTotal trueSum placed withSlice orderly ready calm sound lagsInto freed released eligible deadline precedes choice emptyTable joined leaving left reweighted lengthSet chosen sliceGiven granted returned call checksOf step
 stepping t e = step t e

@@ -6,7 +6,7 @@ use lib.ListN.{replicate}
 use Rattle.rows.specs.declared.Row.{Row}
 use Rattle.rows.specs.declared.State.the-variants.{Going}
 use Rattle.rows.specs.declared.Terms.{Terms}
-use Rattle.rows.specs.Numbers.{queues, lengthMeant, defaultOf}
+use Rattle.rows.specs.Numbers.{queues, lengthMeant}
 use Rattle.rows.specs.Row.{blank}
 use Rattle.rows.specs.Requests.{entering, rowNextSet, charged}
 use Rattle.head.specs.Head.{emptyHead, entry}
@@ -22,7 +22,7 @@ emptyTable terms = record { rows = replicate queues blank; head = emptyHead term
 
 -- the length that a call's length stands for in this table
 abbrev pub meant : Table → ℕ → ℕ
-meant t length = lengthMeant (defaultOf (t .head .terms)) length
+meant t length = lengthMeant (t .head .terms) length
 
 -- "Join. The queue enters at the least whole number not below V" or where an empty table rests (T-02) "and opens its first request"
 -- (and after each join, leave, reweight and return its release)

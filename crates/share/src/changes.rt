@@ -9,7 +9,6 @@ use crate::Table;
 use rows::BLANK;
 use rows::Row;
 use rows::State;
-use rows::default_of;
 use rows::is_ready;
 use rows::length_meant;
 use rows::lesser;
@@ -74,7 +73,7 @@ impl Table {
     {
         let head = self.head;
         let position = head.entry();
-        let request = opened(position, length_meant(default_of(head.terms), length));
+        let request = opened(position, length_meant(head.terms, length));
         let row = Row {
             weight,
             position,
@@ -116,7 +115,7 @@ impl Table {
         ensures { λ r. ⌜ r ≡ events.lengthSet self queue length ⌝ }
     {
         let row = self.row_of(queue);
-        let meant = length_meant(default_of(self.head.terms), length);
+        let meant = length_meant(self.head.terms, length);
         self.placed(queue, next_set(row, meant))
     }
 }

@@ -51,6 +51,8 @@ impl Table {
 
     pub const DEFAULT_LENGTH: u64 = rows::DEFAULT_LENGTH;
 
+    pub const FORMER_DEFAULT: u64 = rows::FORMER_DEFAULT;
+
     pub const MAX_LIMIT: u64 = rows::MAX_LIMIT;
 
     pub const MAX_RULE: u64 = rows::MAX_RULE;
@@ -58,7 +60,11 @@ impl Table {
     pub const CEILING: u64 = rows::CEILING;
 
     // What the table that a refused fresh gives was made with.
-    pub const LEAST_TERMS: Terms = Terms { limit: 1, rule: 1 };
+    pub const LEAST_TERMS: Terms = Terms {
+        limit: 1,
+        rule: 1,
+        default: rows::DEFAULT_LENGTH,
+    };
 
     // A table of free rows, whatever the terms: `fresh` is the call that looks at them.
     pub fn empty(terms: Terms) -> Table
@@ -78,7 +84,7 @@ impl Table {
         }
     }
 
-    // Refused, it has no table to hand back and gives the empty one with slice limit 1, of rule 1.
+    // Refused, it has no table to hand back and gives the empty one with slice limit 1, of rule 1 and default 8.
     pub fn fresh(terms: Terms) -> Reply
         ensures { λ r. ⌜ r ≡ freshReply terms ⌝ }
     {

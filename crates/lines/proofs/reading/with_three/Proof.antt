@@ -20,9 +20,24 @@ returns-3 : tie.Need-returns-3
 unfolding eventOf
 returns-3 c = simp (c .returned .ensures, ne-eqb _ _ (c .before .before .before .if1 .left), ne-eqb _ _ (c .before .before .if2 .left), eq-eqb _ _ (c .before .if3 .taken))
 
+fresh-of-requires : tie.Need-fresh-of-requires
+fresh-of-requires c κs = search needs
+
 returns-4 : tie.Need-returns-4
 unfolding eventOf
-returns-4 c = simp (ne-eqb _ _ (c .before .before .if1 .left), ne-eqb _ _ (c .before .if2 .left), ne-eqb _ _ (c .if3 .left))
+returns-4 c =
+    simp (
+      c .fresh-of .ensures,
+      ne-eqb _ _ (c .before .before .before .before .if1 .left),
+      ne-eqb _ _ (c .before .before .before .if2 .left),
+      ne-eqb _ _ (c .before .before .if3 .left),
+      eq-eqb _ _ (c .before .if4 .taken),
+    )
+
+returns-5 : tie.Need-returns-5
+unfolding eventOf
+returns-5 c =
+    simp (ne-eqb _ _ (c .before .before .before .if1 .left), ne-eqb _ _ (c .before .before .if2 .left), ne-eqb _ _ (c .before .if3 .left), ne-eqb _ _ (c .if4 .left))
 
 pub with-three-spec : {M : Type 1} → statement M
-with-three-spec = tie.close (tie.spec returns returns-2 returned-requires returns-3 returns-4)
+with-three-spec = tie.close (tie.spec returns returns-2 returned-requires returns-3 fresh-of-requires returns-4 returns-5)

@@ -6,7 +6,6 @@ use Rattle.laws.proofs.Tests.{clash}
 use Rattle.rows.specs.declared.Request.{Request}
 use Rattle.rows.specs.declared.Row.{Row}
 use Rattle.rows.specs.declared.State.the-variants.{Asking}
-use Rattle.rows.specs.Numbers.{lengthMeant}
 use Rattle.rows.specs.Requests.{opened, entering}
 use Rattle.rows.proofs.Requests.{entering-orderly}
 use Rattle.head.specs.Head.{entry}
@@ -33,9 +32,6 @@ asking w p q = record { weight = w; position = p; state = Asking q }
 same-row : (w : ℕ) {p q : ℕ} {r s : Request} → p ≡ q → r ≡ s → asking w p r ≡ asking w q s
 same-row w e f = rw (e, f) refl
 
-default-of-requires : tie.Need-default-of-requires
-default-of-requires c κs = search needs
-
 length-meant-requires : tie.Need-length-meant-requires
 length-meant-requires c κs = search needs
 
@@ -48,7 +44,7 @@ module _ (c : tie.After-opened) where
   meant-at = c .before
 
   abbrev entry-at : tie.After-entry
-  entry-at = meant-at .before .before
+  entry-at = meant-at .before
 
   abbrev start : tie.Start
   start = entry-at .before .before
@@ -58,8 +54,7 @@ module _ (c : tie.After-opened) where
 
   request-is : c .opened .result ≡ opened (entry (table .head)) (meant table (start .args .length))
   request-is =
-      c .opened .ensures
-      ∙ same-opened (entry-at .entry .ensures) (meant-at .length-meant .ensures ∙ ap (λ (d : ℕ). lengthMeant d (start .args .length)) (meant-at .before .default-of .ensures))
+      c .opened .ensures ∙ same-opened (entry-at .entry .ensures) (meant-at .length-meant .ensures)
 
   row-is : asking (start .args .weight) (entry-at .entry .result) (c .opened .result) ≡ entering (start .args .weight) (entry (table .head)) (meant table (start .args .length))
   unfolding entering
@@ -74,7 +69,7 @@ module _ (c : tie.After-opened) where
         orderly = o;
         inside = j .inside;
         new =
-            entering-orderly (table .head .terms) (start .args .weight) (entry (table .head)) (start .args .length)
+            entering-orderly (table .head .terms) (start .args .weight) (entry (table .head)) (start .args .length) (o .terms-allowed)
             (record { weight-low = j .weight-low; weight-high = j .weight-high; position-high = entry-high table o })
             (j .length-high);
       })
@@ -99,7 +94,6 @@ joined-spec =
     tie.close
     (tie.spec
     entry-requires
-    default-of-requires
     length-meant-requires
     opened-requires
     placed-requires

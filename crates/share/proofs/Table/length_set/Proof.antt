@@ -3,7 +3,6 @@ use mathlib.Core.Path.{ap, subst⁻¹, refl, _≡_, _∙_}
 use Prim.Native.Nat.{ℕ}
 use borrow.Author.Needs.{needs}
 use Rattle.rows.specs.declared.Row.{Row}
-use Rattle.rows.specs.Numbers.{lengthMeant}
 use Rattle.rows.specs.Requests.{rowNextSet}
 use Rattle.rows.proofs.Requests.{next-orderly}
 use Rattle.share.specs.declared.Table.{Table}
@@ -20,9 +19,6 @@ row-of-requires c κs = search needs
 same-set : {r s : Row} {l m : ℕ} → r ≡ s → l ≡ m → rowNextSet r l ≡ rowNextSet s m
 same-set e f = rw (e, f) refl
 
-default-of-requires : tie.Need-default-of-requires
-default-of-requires c κs = search needs
-
 length-meant-requires : tie.Need-length-meant-requires
 length-meant-requires c κs = search needs
 
@@ -32,7 +28,7 @@ next-set-requires c κs = search needs
 -- the row with its next length set
 module _ (c : tie.After-next-set) where
   abbrev row-read : tie.After-row-of
-  row-read = c .before .before .before
+  row-read = c .before .before
 
   abbrev start : tie.Start
   start = row-read .before
@@ -42,8 +38,7 @@ module _ (c : tie.After-next-set) where
 
   row-is : c .next-set .result ≡ rowNextSet (row table (start .args .queue)) (meant table (start .args .length))
   row-is =
-      c .next-set .ensures
-      ∙ same-set (row-read .row-of .ensures) (c .before .length-meant .ensures ∙ ap (λ (d : ℕ). lengthMeant d (start .args .length)) (c .before .before .default-of .ensures))
+      c .next-set .ensures ∙ same-set (row-read .row-of .ensures) (c .before .length-meant .ensures)
 
 placed-requires : tie.Need-placed-requires
 unfolding rowNextSet
@@ -55,7 +50,9 @@ placed-requires c κs =
     (record {
       orderly = o;
       inside = start c .pre .leaves .inside;
-      new = next-orderly (a .self .head .terms) (r .state) (r .weight) (r .position) (a .length) (start c .pre .length-high) (o .each (a .queue));
+      new =
+          next-orderly (a .self .head .terms) (r .state) (r .weight) (r .position) (a .length) (o .terms-allowed) (start c .pre .length-high)
+          (o .each (a .queue));
     })
 
 returns : tie.Need-returns
@@ -65,4 +62,4 @@ returns c = c .placed .ensures ∙ ap (placed (table (c .before)) (start (c .bef
 pub length-set-spec : {M : Type 1} → statement M
 length-set-spec =
     tie.close
-    (tie.spec row-of-requires default-of-requires length-meant-requires next-set-requires placed-requires returns)
+    (tie.spec row-of-requires length-meant-requires next-set-requires placed-requires returns)
