@@ -1,5 +1,7 @@
 // A row of the share table and all that can be asked of it without the table: its ranges, what a tick does to it, and what a walk over rows sees
 // of it.
+#![tactic(auto)]
+
 ghost use Rattle.std.specs.Prelude.{◌≡◌};
 ghost use Rattle.rows.specs.Numbers.{step_of};
 
@@ -40,7 +42,7 @@ pub const CEILING: u64 = 281_474_976_710_656;
 pub const UNIT: u64 = 720_720;
 
 // What a table is made with.
-#[derive(Drop)]
+#[derive(Clone, Copy)]
 pub struct Terms {
     pub limit: u64,
     pub rule: u64,
@@ -48,7 +50,7 @@ pub struct Terms {
 }
 
 // An open request: where it opened, its length, the ticks served of it, and the length of the one after it.
-#[derive(Drop)]
+#[derive(Clone, Copy)]
 pub struct Request {
     pub opening: u64,
     pub length: u64,
@@ -56,14 +58,14 @@ pub struct Request {
     pub next: u64,
 }
 
-#[derive(Drop)]
+#[derive(Clone, Copy)]
 pub enum State {
     Free,
     Going,
     Asking(Request),
 }
 
-#[derive(Drop)]
+#[derive(Clone, Copy)]
 pub struct Row {
     pub weight: u64,
     pub position: u64,
@@ -71,7 +73,7 @@ pub struct Row {
 }
 
 // Where a position stands to V: behind it, level with it, or ahead, and then by how many position units V has to rise to reach it.
-#[derive(Drop)]
+#[derive(Clone, Copy)]
 pub enum Standing {
     Behind,
     Level,

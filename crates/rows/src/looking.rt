@@ -13,7 +13,7 @@ use crate::{Request, Row, State, Terms, step_of};
 const BEYOND: u64 = crate::CEILING + 1;
 
 // What a request asks for the engine with.
-#[derive(Drop)]
+#[derive(Clone, Copy)]
 pub struct Bid {
     pub deadline: u64,
     pub position: u64,
@@ -21,7 +21,7 @@ pub struct Bid {
 
 // What the rows so far come to: their parts in W and A, a position that no going row among them stands before, and of those that may be served the
 // one that goes first, with its bid; 64 while there is none. The walk ends at the first row with a fault.
-#[derive(Drop)]
+#[derive(Clone, Copy)]
 pub struct Seen {
     pub faults: u64,
     pub weights: u64,
