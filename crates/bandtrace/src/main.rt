@@ -1,10 +1,12 @@
 // Runs a list of events, one to a line, from standard input, and prints what each was answered. What happens between reading and writing is
 // `lines`; here bytes are moved. If reading or writing fails it says so on standard error and stops.
+#![tactic(auto)]
+
 use libc::{STDERR_FILENO, STDIN_FILENO, STDOUT_FILENO};
 use lines::State;
 
 // A state, and whether there is anything left to do.
-#[derive(Drop)]
+#[derive(Clone, Copy)]
 struct Step {
     state: State,
     again: bool,

@@ -51,17 +51,17 @@ first_applies [] why e = let z : ◌≡◌ {A = ℕ} 0 1 = cc in absurd (omega a
 first_applies ((this when b) ∷ rest) why e =
     ⊎_elim (λ h. here_at b rest h.1 h.0) (λ h. later (first_applies rest why h.1)) (first_head b this why (first_refusal rest) e)
 
-pub none_applies : {checks : List Check} {why : Refusal} → Applies why checks → first_refusal checks ≡ none → ⊥
+pub none_applies : {why : Refusal} {checks : List Check} → Applies why checks → first_refusal checks ≡ none → ⊥
 none_applies {why = why} (here {b = b} {rest = rest} p) e = clash p (head_none b why (first_refusal rest) e).0
 none_applies (later {c = this when b} {rest = rest} h) e = none_applies h (head_none b this (first_refusal rest) e).1
 
-ordered_below : {checks : List Check} {why : Refusal} (n : ℕ) → Applies why checks → ordered n checks ≡ true → n < refusal_number why
+ordered_below : {why : Refusal} {checks : List Check} (n : ℕ) → Applies why checks → ordered n checks ≡ true → n < refusal_number why
 ordered_below {why = why} n (here p) e = ltb-true n (refusal_number why) (every_each _ e).0
 ordered_below n (later {c = this when b} h) e =
     let facts = every_each _ e in
     omega (arith, ltb-true n (refusal_number this) facts.0, ordered_below (refusal_number this) h facts.1.0)
 
-pub first_lowest : {checks : List Check} {other : Refusal} (n : ℕ) (why : Refusal) → Applies other checks → ordered n checks ≡ true → first_refusal checks ≡ some why → refusal_number why ≤ refusal_number other
+pub first_lowest : {other : Refusal} {checks : List Check} (n : ℕ) (why : Refusal) → Applies other checks → ordered n checks ≡ true → first_refusal checks ≡ some why → refusal_number why ≤ refusal_number other
 first_lowest {other = other} n why (here {b = b} {rest = rest} p) o e =
     ⊎_elim (λ h. omega (arith, ap refusal_number h.1)) (λ h. absurd (clash p h.0)) (first_head b other why (first_refusal rest) e)
 first_lowest n why (later {c = this when b} {rest = rest} h) o e =

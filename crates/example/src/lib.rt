@@ -1,4 +1,6 @@
 // The table called from a crate of one's own: a fresh one with slices of at most 5 ticks, a queue that joins, and a grant. The contract says what comes of it.
+#![tactic(auto)]
+
 ghost use Rattle.std.specs.Prelude.{◌≡◌};
 ghost use Rattle.share.specs.Calls.{fresh_reply, grant_reply, join_reply};
 

@@ -1,1 +1,3 @@
 // No code: exact fractions and their laws, for the account.
+#![tactic(auto)]
+

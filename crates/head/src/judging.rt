@@ -10,7 +10,7 @@ use crate::surveying::fits_ceiling;
 use crate::{Event, Head, Refusal};
 use rows::{Row, State, Terms, is_asking, is_free, outside};
 
-#[derive(Drop)]
+#[derive(Clone, Copy)]
 pub enum Verdict {
     Fine,
     Refused(Refusal),

@@ -1,5 +1,7 @@
 // The head of a share table: the numbers that it keeps beside its rows. What asks for no more than these and one row stands here, so that it serves
 // a table by value and one in lent memory alike: what an event is refused for, where a queue enters, whether the slice is in order, the lag of a row.
+#![tactic(auto)]
+
 ghost use Rattle.std.specs.Prelude.{◌≡◌};
 ghost use Rattle.head.specs.Answers.{plainly, shown_as};
 ghost use Rattle.head.specs.Head as heads;
@@ -16,7 +18,7 @@ pub use surveying::Survey;
 
 // W is total and A is sum; resting is where V stands while no row is present, and zero while one is; holder and ticks are those of the slice that is
 // out, and zero when none is.
-#[derive(Drop)]
+#[derive(Clone, Copy)]
 pub struct Head {
     pub total: u64,
     pub sum: u64,
@@ -28,7 +30,7 @@ pub struct Head {
 }
 
 // Why a call was refused.
-#[derive(Drop)]
+#[derive(Clone, Copy)]
 pub enum Refusal {
     Unsound,
     QueueOutside,
@@ -49,7 +51,7 @@ pub enum Refusal {
     DefaultOutside,
 }
 
-#[derive(Drop)]
+#[derive(Clone, Copy)]
 pub enum Answer {
     Accepted,
     Granted { queue: u64, slice: u64 },
@@ -58,7 +60,7 @@ pub enum Answer {
     Refused(Refusal),
 }
 
-#[derive(Drop)]
+#[derive(Clone, Copy)]
 pub enum Event {
     Fresh {
         terms: Terms,
@@ -89,7 +91,7 @@ pub enum Event {
 }
 
 // What a line of input, or a record of a list, asks for: an event, or nothing that there is.
-#[derive(Drop)]
+#[derive(Clone, Copy)]
 pub enum Line {
     Known(Event),
     Broken,
@@ -99,7 +101,7 @@ pub enum Line {
 pub const BROKEN: u64 = 15;
 
 // An answer in numbers: which, and what was granted if anything was.
-#[derive(Drop)]
+#[derive(Clone, Copy)]
 pub struct Shown {
     pub answer: u64,
     pub granted: bool,

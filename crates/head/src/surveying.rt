@@ -12,7 +12,7 @@ use crate::judging::{default_outside, limit_outside, rule_outside};
 use rows::{Request, Row, Seen, Standing, State, Terms, lesser};
 
 // Whether the table is sound, and of a sound one whom a grant would name and a position that no going row stands before.
-#[derive(Drop)]
+#[derive(Clone, Copy)]
 pub struct Survey {
     pub sound: bool,
     pub queue: u64,

@@ -1,4 +1,6 @@
 // The lines of bandtrace: input in pieces worked line by line, each line read into an event, applied, and its answer written.
+#![tactic(auto)]
+
 mod reading;
 mod writing;
 
@@ -17,7 +19,7 @@ pub const KEPT: usize = LONGEST + 1;
 
 // Where the program stands between reading and writing: the table, the number of the next line, and the bytes from..have of the buffer that
 // are not answered yet. `more` says that whole lines may be among them; `written` is how much of the output to write.
-#[derive(Drop)]
+#[derive(Clone, Copy)]
 pub struct State {
     pub table: Table,
     pub line: u64,
@@ -153,7 +155,7 @@ impl State {
 
 // What a piece of input came to: the bytes read and written, the number of the next line, and the table. Unless a whole line may be left,
 // it ends in an unfinished one, or in none.
-#[derive(Drop)]
+#[derive(Clone, Copy)]
 pub struct Done {
     pub read: usize,
     pub written: usize,

@@ -6,7 +6,7 @@ ghost use Rattle.lines.specs.Reading.{field_at, finished_as, zero_leads};
 use share::{Event, Line, Table, Terms};
 
 // What a field is: a decimal and the place of its end, or none.
-#[derive(Drop)]
+#[derive(Clone, Copy)]
 pub enum Field {
     Decimal { value: u64, end: usize },
     Nothing,

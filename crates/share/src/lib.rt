@@ -1,4 +1,6 @@
 // The share table of one render engine: queues share it by weight, a slice at a time.
+#![tactic(auto)]
+
 ghost use Rattle.std.specs.Prelude.{◌≡◌, ◌≤◌};
 ghost use Rattle.rows.specs.Fits.{Crossing};
 ghost use Rattle.rows.specs.Numbers.{max_total};
@@ -14,14 +16,14 @@ use head::{Verdict, standing_verdict};
 use rows::{Row, UNSEEN, charged, exchanged, first_row, moment, place, reached, seen_after};
 pub use rows::{Standing, Terms};
 
-#[derive(Drop)]
+#[derive(Clone, Copy)]
 pub struct Table {
     pub rows: [Row; 64],
     pub head: Head,
 }
 
 // What every call hands back: its answer, and the table beside it.
-#[derive(Drop)]
+#[derive(Clone, Copy)]
 pub struct Reply {
     pub answer: Answer,
     pub table: Table,

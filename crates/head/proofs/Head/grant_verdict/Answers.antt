@@ -1,0 +1,19 @@
+-- `Head::grant_verdict`: one refusal after another, as the list has them; the ceiling is asked for only of a sound table.
+use mathlib.Core.List.{[], ◌∷◌}
+use Rattle.head.specs.declared.Refusal.TheVariants.{SliceOut, TableEmpty, CeilingPassed}
+use Rattle.head.specs.Head.{is_empty}
+use Rattle.head.specs.Refusals.{◌when◌, checks_for, verdict_for, ceiling_passed}
+use Rattle.head.proofs.Verdicts.{judge_sound}
+use borrow.Author.Rules.{rules}
+use Rattle.head.proofs.Head.grant_verdict.Goals as goal
+
+pub returns : goal.returns
+unfolding verdict_for checks_for is_empty
+returns c =
+    let at-ceiling-passed = c.before in
+    let after-or3 = at-ceiling-passed.before in
+    let after-or2 = after-or3.before.before in
+    let after-or = after-or2.before in
+    let a = after-or.args in
+    rw (c.or-4.ensures, after-or3.or-3.ensures, after-or2.or-2.ensures, after-or.or.ensures)
+    (judge_sound a.sound ((SliceOut when a.self.out) ∷ (TableEmpty when is_empty a.self) ∷ []) CeilingPassed at-ceiling-passed.ceiling_passed.result (ceiling_passed a.row) at-ceiling-passed.ceiling_passed.ensures)

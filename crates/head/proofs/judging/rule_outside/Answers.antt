@@ -1,0 +1,8 @@
+-- `rule_outside` is the definition.
+use Rattle.rows.specs.Orderly.{rule_outside}
+use borrow.Author.Rules.{rules}
+use Rattle.head.proofs.judging.rule_outside.Goals as goal
+
+pub returns : goal.returns
+unfolding rule_outside
+returns c = c.outside.ensures
