@@ -1,0 +1,6 @@
+-- `close` puts the newline after what is held, if there is anything and room for it.
+use Rattle.lines.proofs.Turning.{closed_newline}
+use Rattle.lines.proofs.close.Goals as goal
+
+pub returns : goal.returns
+returns c = closed_newline c.args.state c.args.buf.now c.if-have-from.false c.if-buf-have.false
