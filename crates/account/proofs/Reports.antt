@@ -3,7 +3,7 @@
 use mathlib.Core.Bool.{false, cond}
 use mathlib.Core.List.{List, [], ◌∷◌, map, ◌++◌}
 use mathlib.Core.Logic.{⊎_elim}
-use mathlib.Core.Option.{none, some}
+use mathlib.Core.Option.{none}
 use mathlib.Core.Path.{◌≡◌, refl, ap, sym, subst, ◌∙◌}
 use Prim.Native.Nat.{ℕ, ◌+◌, ◌*◌, ◌≤◌, ◌<◌}
 use native.Mathlib.Nat.{mul-pos}
@@ -38,7 +38,6 @@ use Rattle.share.proofs.Stepping.{call_accepted}
 use Rattle.fractions.specs.Fraction.{over_above, ◌÷◌, whole, nothing, ◌~◌, total}
 use Rattle.fractions.specs.Signed.{summed}
 use Rattle.fractions.proofs.Differences.{Is, itself, difference_is, equal_is, summed_is}
-use Rattle.fractions.proofs.Laws.{same}
 use Rattle.fractions.proofs.Values.{value_any_over, value_over, value_whole, value_nothing, value_minus, value_change, same_value, value_above, total_value}
 use Rattle.account.specs.Account.{Entry, absent, present, Queue, Account, entry, owed_to, rest, weight_left}
 use Rattle.account.specs.Bound.{too_low}

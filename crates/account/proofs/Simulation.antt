@@ -25,7 +25,6 @@ use Rattle.share.specs.Asks.{Joins, Leaves, Lengthens, Returns}
 use Rattle.share.specs.Calls.{refused, step, checks_of, done_by}
 use Rattle.share.specs.Events.{empty_table, joined, leaving, left, reweighted, length_set, granted, returned, meant}
 use Rattle.share.specs.Runs.{run}
-use Rattle.share.specs.Sound.{orderly}
 use Rattle.share.specs.Table.{row, placed, with_slice}
 use Rattle.share.proofs.Accepted.{join_accepted, leave_accepted, reweight_accepted, length_accepted, return_accepted}
 use Rattle.share.proofs.Charges.{holding, slice_within}

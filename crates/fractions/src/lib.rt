@@ -1,3 +1,2 @@
 // No code: exact fractions and their laws, for the account.
 #![tactic(auto)]
-

@@ -1,5 +1,5 @@
 -- Document 01, "A row and a sound table": the table and virtual time.
-use Rattle.std.specs.Prelude.{◌≡◌, Bool, List, ℕ, ◌-◌, get_or, set}
+use Rattle.std.specs.Prelude.{◌≡◌, Bool, List, ℕ, get_or, set}
 use Rattle.laws.specs.Lists.{sum_of}
 use Rattle.rows.specs.declared.Row.{Row}
 use Rattle.rows.specs.Row.{blank, weight_in, moment_in}

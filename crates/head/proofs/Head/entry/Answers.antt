@@ -1,7 +1,6 @@
 -- `Head::entry` rounds up by W - 1 before the division.
 use borrow.Author.Tests.{eq-eqb, ne_eqb}
 use Rattle.head.specs.Head.{is_empty, entry}
-use borrow.Author.Rules.{rules}
 use Rattle.head.proofs.Head.entry.Goals as goal
 
 pub returns-then-total-eq0 : goal.returns-then-total-eq0

@@ -4,7 +4,6 @@ use Rattle.head.specs.declared.Refusal.TheVariants.{SliceOut, TableEmpty, Ceilin
 use Rattle.head.specs.Head.{is_empty}
 use Rattle.head.specs.Refusals.{◌when◌, checks_for, verdict_for, ceiling_passed}
 use Rattle.head.proofs.Verdicts.{judge_sound}
-use borrow.Author.Rules.{rules}
 use Rattle.head.proofs.Head.grant_verdict.Goals as goal
 
 pub returns : goal.returns

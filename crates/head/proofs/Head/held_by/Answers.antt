@@ -1,12 +1,10 @@
 -- `Head::held_by` goes by the state of the row.
-use mathlib.Core.Path.{ap, sym, subst, ◌∙◌}
+use mathlib.Core.Path.{subst}
 use native.Mathlib.Omega.{arith}
 use Rattle.rows.specs.declared.State.{State}
 use Rattle.rows.specs.declared.State.TheVariants.{Asking}
 use Rattle.rows.specs.Orderly.{OrderlyAs}
 use Rattle.rows.specs.Row.{position_of}
-use Rattle.head.specs.Slice.{held_by}
-use borrow.Author.Rules.{rules}
 use Rattle.head.proofs.Head.held_by.Goals as goal
 
 -- the row's request is in order

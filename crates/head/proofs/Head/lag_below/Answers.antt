@@ -1,10 +1,7 @@
 -- `Head::lag_below`: of a sound table the product fits, and of another nothing is said.
 use mathlib.Core.Path.{ap}
 use mathlib.Core.Bool.{not}
-use native.Mathlib.Omega.{arith}
-use Rattle.laws.proofs.Tests.{clash}
 use Rattle.head.specs.Refusals.{lag_below}
-use Rattle.rows.proofs.Shares.{position_small}
 use Rattle.head.proofs.Head.lag_below.Goals as goal
 
 pub returns-then-sound : goal.returns-then-sound

@@ -1,9 +1,7 @@
 -- `Head::lag_of`: of an orderly row, a free one too, the product form is its lag.
 use mathlib.Core.Path.{◌∙◌}
-use native.Mathlib.Omega.{arith}
 use mir.Syntax.{w64}
 use mir.ValLaws.{to_z-of_z}
-use Rattle.rows.proofs.Shares.{weight_small, position_small}
 use Rattle.head.proofs.Lags.{lag_product}
 use Rattle.head.proofs.Head.lag_of.Goals as goal
 

@@ -2,7 +2,6 @@
 use Rattle.head.specs.declared.Event.TheVariants.{Length}
 use Rattle.head.specs.Refusals.{checks_for, verdict_for, not_asking}
 use Rattle.head.proofs.Verdicts.{judge_first}
-use borrow.Author.Rules.{rules}
 use Rattle.head.proofs.Head.length_verdict.Goals as goal
 
 pub returns : goal.returns

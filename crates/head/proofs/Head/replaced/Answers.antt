@@ -1,7 +1,6 @@
 -- `Head::replaced` is the definition, with the share of an orderly row written out.
 use Rattle.rows.proofs.Shares.{orderly_weight}
 use Rattle.head.specs.Head.{summed}
-use borrow.Author.Rules.{rules}
 use Rattle.head.proofs.Head.replaced.Goals as goal
 
 pub returns : goal.returns

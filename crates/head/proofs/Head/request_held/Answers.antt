@@ -1,8 +1,6 @@
 -- `Head::request_held`: each test that fails decides against, and the last decides.
 use mathlib.Core.Path.{sym, ◌∙◌}
-use borrow.Author.Tests.{not-true, not-false}
 use Rattle.head.proofs.Slice.{holder_waits, holder_high, holder_short, holder_last}
-use borrow.Author.Rules.{rules}
 use Rattle.head.proofs.Head.request_held.Goals as goal
 
 pub returns-then-not-reached : goal.returns-then-not-reached

@@ -3,7 +3,6 @@ use mathlib.Core.List.{[], ◌∷◌}
 use Rattle.head.specs.declared.Refusal.TheVariants.{QueueOutside, WeightOutside, LengthOutside, SliceOut, NotAsking, LagBelow}
 use Rattle.head.specs.Refusals.{◌when◌, checks_for, verdict_for, queue_outside, weight_outside, length_outside, not_asking, lag_below}
 use Rattle.head.proofs.Verdicts.{judge_sound}
-use borrow.Author.Rules.{rules}
 use Rattle.head.proofs.Head.reweight_verdict.Goals as goal
 
 pub returns : goal.returns

@@ -1,11 +1,6 @@
 -- `Head::slice_for` goes by the row's state.
-use mathlib.Core.Path.{ap, sym, subst, ◌∙◌}
-use native.Mathlib.Omega.{arith}
-use Rattle.rows.specs.declared.State.{State}
-use Rattle.rows.specs.declared.State.TheVariants.{Asking}
-use Rattle.rows.specs.Orderly.{OrderlyAs}
+use mathlib.Core.Path.{ap, sym, ◌∙◌}
 use Rattle.head.specs.Slice.{slice_as, slice_for}
-use borrow.Author.Rules.{rules}
 use Rattle.head.proofs.Head.slice_for.Goals as goal
 
 pub returns-in-Free : goal.returns-in-Free

@@ -1,7 +1,6 @@
 -- `Head::slice_orderly`: by the holder's row if a slice is out, and else by two zeros.
 use mathlib.Core.Path.{◌∙◌}
 use Rattle.head.proofs.Slice.{held_outside, held_inside, none_holder, none_ticks}
-use borrow.Author.Rules.{rules}
 use Rattle.head.proofs.Head.slice_orderly.Goals as goal
 
 pub returns-then-holder-ge-QUEUES : goal.returns-then-holder-ge-QUEUES

@@ -6,7 +6,6 @@ use Rattle.rows.specs.declared.looking.Seen.{Seen}
 use Rattle.head.specs.declared.surveying.Survey.{Survey}
 use Rattle.head.specs.Judged.{survey_of}
 use Rattle.head.proofs.Slice.{last_decides}
-use borrow.Author.Rules.{rules}
 use Rattle.head.proofs.Head.survey.Goals as goal
 
 abbrev told : Seen → Bool → Survey

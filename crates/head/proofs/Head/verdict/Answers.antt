@@ -1,7 +1,6 @@
 -- `Head::verdict` goes by the kind of event.
 use mathlib.Core.Path.{ap, sym, ◌∙◌}
 use Rattle.head.specs.Refusals.{checks_for, verdict_for}
-use borrow.Author.Rules.{rules}
 use Rattle.head.proofs.Head.verdict.Goals as goal
 
 pub returns-in-Fresh : goal.returns-in-Fresh

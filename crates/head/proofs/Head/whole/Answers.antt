@@ -1,13 +1,12 @@
 -- `Head::whole`: each test that fails decides against, and the terms decide last.
 use mathlib.Core.Path.{sym, ◌∙◌}
 use native.Mathlib.Omega.{arith}
-use borrow.Author.Tests.{ne_eqb, not-true, not-false}
+use borrow.Author.Tests.{ne_eqb}
 use Rattle.laws.proofs.Tests.{first_fails, rest_fails, both_ways}
 use Rattle.rows.proofs.Orderly.{allowed_says, says_allowed}
 use Rattle.head.specs.Judged.{whole}
 use Rattle.head.proofs.Judged.{whole_says, says_whole}
 use Rattle.head.proofs.Rest.{rest_says}
-use borrow.Author.Rules.{rules}
 use Rattle.head.proofs.Head.whole.Goals as goal
 
 pub returns-then-faults-gt0 : goal.returns-then-faults-gt0

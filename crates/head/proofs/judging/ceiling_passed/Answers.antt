@@ -2,13 +2,10 @@
 use mathlib.Core.Path.{ap, sym, subst, ◌∙◌}
 use mathlib.Core.Bool.{not}
 use native.Mathlib.Omega.{arith}
-use Rattle.laws.proofs.Tests.{clash}
 use Rattle.rows.specs.declared.State.{State}
-use Rattle.rows.specs.declared.State.TheVariants.{Asking}
 use Rattle.rows.specs.Orderly.{OrderlyAs}
 use Rattle.rows.specs.Row.{position_of}
 use Rattle.head.specs.Refusals.{passed_as, ceiling_passed}
-use borrow.Author.Rules.{rules}
 use Rattle.head.proofs.judging.ceiling_passed.Goals as goal
 
 pub fits_ceiling-requires : goal.fits_ceiling-requires

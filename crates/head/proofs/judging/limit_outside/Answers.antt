@@ -1,6 +1,5 @@
 -- `limit_outside` is the definition.
 use Rattle.rows.specs.Orderly.{limit_outside}
-use borrow.Author.Rules.{rules}
 use Rattle.head.proofs.judging.limit_outside.Goals as goal
 
 pub returns : goal.returns

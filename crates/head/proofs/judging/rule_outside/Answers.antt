@@ -1,6 +1,5 @@
 -- `rule_outside` is the definition.
 use Rattle.rows.specs.Orderly.{rule_outside}
-use borrow.Author.Rules.{rules}
 use Rattle.head.proofs.judging.rule_outside.Goals as goal
 
 pub returns : goal.returns

@@ -1,7 +1,6 @@
 -- `difference`: both parts are positive signed numbers, and so short that their difference fits.
-use mathlib.Core.Path.{◌≡◌, ◌∙◌}
+use mathlib.Core.Path.{◌≡◌}
 use native.Mathlib.Omega.{arith}
-use borrow.Author.Rules.{rules}
 use lib.IntN.{◌-ℤ◌}
 use mir.Syntax.{w64}
 use mir.Val.{to_z}

@@ -1,6 +1,5 @@
 -- `fits_ceiling` is the definition.
 use Rattle.rows.specs.Orderly.{fits_ceiling}
-use borrow.Author.Rules.{rules}
 use Rattle.head.proofs.surveying.fits_ceiling.Goals as goal
 
 pub returns : goal.returns

@@ -1,6 +1,5 @@
 -- `slice_least` is the definition.
 use Rattle.rows.specs.Orderly.{slice_least}
-use borrow.Author.Rules.{rules}
 use Rattle.head.proofs.surveying.slice_least.Goals as goal
 
 pub returns : goal.returns

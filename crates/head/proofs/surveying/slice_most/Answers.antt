@@ -1,6 +1,5 @@
 -- `slice_most` is the definition.
 use Rattle.rows.specs.Orderly.{slice_most}
-use borrow.Author.Rules.{rules}
 use Rattle.head.proofs.surveying.slice_most.Goals as goal
 
 pub returns : goal.returns

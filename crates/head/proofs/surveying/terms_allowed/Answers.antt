@@ -4,7 +4,6 @@ use mathlib.Core.Bool.{true, not}
 use mathlib.Core.List.{[], ◌∷◌}
 use Rattle.laws.proofs.Tests.{both_ways, first_fails, rest_fails, each_every, every_each}
 use Rattle.rows.specs.Orderly.{limit_outside, rule_outside, default_outside, allowed}
-use borrow.Author.Rules.{rules}
 use Rattle.head.proofs.surveying.terms_allowed.Goals as goal
 
 pub returns-then-limit_outside : goal.returns-then-limit_outside

@@ -1,6 +1,5 @@
 -- `Request::deadline` is the definition's sum, which fits: a request within its ranges moves a queue by at most 10,000 units.
 use native.Mathlib.Omega.{arith}
-use borrow.Author.Rules.{rules}
 use Rattle.rows.specs.Row.{deadline_of}
 use Rattle.rows.proofs.Steps.{travel_most}
 use Rattle.rows.proofs.Request.deadline.Goals as goal

@@ -1,11 +1,10 @@
 -- `bidding`: the one before stays only if there is one and the new bid does not go before it.
 use mathlib.Core.Path.{◌≡◌, refl, sym, ◌∙◌}
 use mathlib.Core.Bool.{true, false}
-use borrow.Author.Tests.{lt-ltb, le-ltb, not-true, not-false}
+use borrow.Author.Tests.{lt-ltb, le-ltb}
 use Rattle.rows.specs.Numbers.{queues}
 use Rattle.rows.specs.Looks as looks
 use Rattle.rows.specs.Order.{goes_before}
-use borrow.Author.Rules.{rules}
 use Rattle.rows.proofs.looking.bidding.Goals as goal
 
 pub returns-then-not-goes_before : goal.returns-then-not-goes_before

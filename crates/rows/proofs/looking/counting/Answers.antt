@@ -1,7 +1,6 @@
 -- `counting`: a row's part fits, and so do the sums with it.
 use Rattle.rows.proofs.Shares.{moment_fits}
 use native.Mathlib.Omega.{arith}
-use borrow.Author.Rules.{rules}
 use Rattle.rows.proofs.looking.counting.Goals as goal
 
 pub overflow_mul-result : goal.overflow_mul-result

@@ -2,7 +2,6 @@
 use mathlib.Core.Path.{◌∙◌}
 use Rattle.rows.specs.declared.State.TheVariants.{Free, Going}
 use Rattle.rows.proofs.Looks.{seen_as_lem}
-use borrow.Author.Rules.{rules}
 use Rattle.rows.proofs.looking.seen_after.Goals as goal
 
 pub returns-in-Free : goal.returns-in-Free

@@ -3,14 +3,12 @@ use mathlib.Core.Path.{◌≡◌, sym, ◌∙◌}
 use mathlib.Core.Bool.{Bool, true}
 use Prim.Native.Nat.{ℕ, ◌≤◌}
 use native.Mathlib.Omega.{arith}
-use borrow.Author.Tests.{not-true, not-false}
 use Rattle.rows.specs.Numbers.{ceiling}
 use Rattle.rows.specs.Row.{position_of}
 use Rattle.rows.specs.declared.Request.{Request}
 use Rattle.rows.specs.Orderly.{InRange, in_range, OrderlyRequest, orderly_request}
 use Rattle.rows.proofs.Looks.{asking_outside, asking_disorderly, asking_fine}
 use Rattle.rows.proofs.Orderly.{in_range_lem, range_in, orderly_request_lem, request_orderly}
-use borrow.Author.Rules.{rules}
 use Rattle.rows.proofs.looking.seen_asking.Goals as goal
 
 pub returns-then-not-in_range : goal.returns-then-not-in_range

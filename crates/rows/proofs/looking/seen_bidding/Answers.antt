@@ -2,7 +2,6 @@
 use mathlib.Core.Path.{refl}
 use Rattle.rows.specs.Looks.{seen_bidding}
 use Rattle.rows.specs.Order.{bid_of}
-use borrow.Author.Rules.{rules}
 use Rattle.rows.proofs.looking.seen_bidding.Goals as goal
 
 pub returns-then-reached : goal.returns-then-reached

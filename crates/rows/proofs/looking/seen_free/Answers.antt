@@ -1,7 +1,6 @@
 -- `seen_free`: either number above zero is a fault.
 use mathlib.Core.Path.{◌∙◌}
 use Rattle.rows.proofs.Looks.{free_weight, free_position, free_fine}
-use borrow.Author.Rules.{rules}
 use Rattle.rows.proofs.looking.seen_free.Goals as goal
 
 pub returns-then-weight-gt0 : goal.returns-then-weight-gt0

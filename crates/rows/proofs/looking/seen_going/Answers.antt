@@ -1,11 +1,9 @@
 -- `seen_going`: the ranges first, so that the products fit; then V must not have reached the row.
 use mathlib.Core.Path.{sym, ◌∙◌}
-use borrow.Author.Tests.{not-true, not-false}
 use Rattle.rows.specs.Orderly.{InRange}
 use Rattle.rows.proofs.Looks.{going_outside, going_reached, going_fine}
 use Rattle.rows.proofs.Orderly.{in_range_lem, range_in}
 use native.Mathlib.Omega.{arith}
-use borrow.Author.Rules.{rules}
 use Rattle.rows.proofs.looking.seen_going.Goals as goal
 
 pub returns-then-not-in_range : goal.returns-then-not-in_range

@@ -1,6 +1,5 @@
 -- `in_range` is the definition's three tests: a weight outside its range decides alone.
 use mathlib.Core.Path.{sym, ◌∙◌}
-use borrow.Author.Rules.{rules}
 use borrow.Author.Tests.{leb-true, le-leb}
 use Rattle.laws.proofs.Tests.{refuted, both_ways}
 use Rattle.rows.specs.Numbers.{max_weight, ceiling}

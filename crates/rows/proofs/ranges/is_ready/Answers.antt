@@ -1,6 +1,5 @@
 -- `is_ready` goes by the row's state.
 use Rattle.rows.specs.Virtual.{ready_at}
-use borrow.Author.Rules.{rules}
 use Rattle.rows.proofs.ranges.is_ready.Goals as goal
 
 pub returns-in-Free : goal.returns-in-Free

@@ -1,7 +1,6 @@
 -- `reached` asks where the position stands.
 use mathlib.Core.Path.{ap, sym, ◌∙◌}
 use Rattle.rows.specs.Virtual.{not_ahead, reached}
-use borrow.Author.Rules.{rules}
 use Rattle.rows.proofs.ranges.reached.Goals as goal
 
 pub returns-in-Behind : goal.returns-in-Behind

@@ -1,7 +1,6 @@
 -- `charged` goes by the row's state; the position comes from `charged_to`.
 use mathlib.Core.Path.{ap}
 use native.Mathlib.Omega.{arith}
-use borrow.Author.Rules.{rules}
 use Rattle.rows.specs.declared.State.TheVariants.{Free, Going}
 use Rattle.rows.specs.Fits.{served_as}
 use Rattle.rows.proofs.Requests.{charged_as}

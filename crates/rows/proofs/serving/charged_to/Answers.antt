@@ -1,6 +1,5 @@
 -- `charged` is the definition's sum, which fits: no call charges more ticks than the longest request has.
 use native.Mathlib.Omega.{arith}
-use borrow.Author.Rules.{rules}
 use Rattle.rows.specs.Row.{charged_to}
 use Rattle.rows.proofs.Steps.{travel_most}
 use Rattle.rows.proofs.serving.charged_to.Goals as goal

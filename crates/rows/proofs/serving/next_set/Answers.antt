@@ -1,5 +1,4 @@
 -- `next_set` goes by the row's state; only an asking row has a next length.
-use borrow.Author.Rules.{rules}
 use Rattle.rows.proofs.Requests.{next_free, next_going, next_asking}
 use Rattle.rows.proofs.serving.next_set.Goals as goal
 

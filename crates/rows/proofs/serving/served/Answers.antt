@@ -1,6 +1,5 @@
 -- `served`: ended early, or used up, the next request opens; else this one goes on.
 use mathlib.Core.Path.{◌∙◌}
-use borrow.Author.Rules.{rules}
 use Rattle.rows.proofs.Requests.{served_early, served_up, served_on}
 use Rattle.rows.proofs.serving.served.Goals as goal
 

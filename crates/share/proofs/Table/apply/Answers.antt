@@ -7,12 +7,10 @@ use Rattle.rows.specs.Looks.{seen_after}
 use Rattle.head.specs.declared.judging.Verdict.{Verdict}
 use Rattle.head.specs.declared.surveying.Survey.{Survey}
 use Rattle.head.specs.declared.judging.Verdict.TheVariants.{Fine}
-use mathlib.Core.Logic.{◌⊎◌, ⊎_elim}
+use mathlib.Core.Logic.{◌⊎◌}
 use mathlib.Core.Option.{none}
 use Prim.Native.Nat.{ℕ, suc, ◌+◌, ◌-◌, ◌*◌, ◌<◌}
 use native.Mathlib.Numerals.{add-one}
-use native.Mathlib.Omega.{arith}
-use borrow.Author.Rules.{rules}
 use lib.ListN.{length, set}
 use Rattle.laws.proofs.Tests.{clash}
 use Rattle.rows.specs.declared.Row.{Row}
@@ -46,7 +44,7 @@ use Rattle.share.proofs.Sound.{sound_says, says_sound}
 use Rattle.share.proofs.Stepping.{none_applies_to, verdict_refused, verdict_fine, told_ahead, same_checks}
 use Rattle.share.proofs.Surveys.{may_survey, survey_tells}
 use Rattle.share.proofs.Totals.{total_most, weighed, exchange_moments}
-use Rattle.share.proofs.Walk.{Walking, walking_starts, walking_light, walking_room, walking_next, walk_ends}
+use Rattle.share.proofs.Walk.{Walking, walking_starts, walking_next, walk_ends}
 use Rattle.share.proofs.Table.apply.Goals as goal
 use Rattle.share.proofs.Table.apply.Goals.{After-held-1, After-row-2-1, In-Return, else-loop-i-test, then-loop-i-test+then-faults-gt0}
 
@@ -75,8 +73,8 @@ module _ (c : After-held-1) where
       let loop = c.loop-i in
       let t = c.args.self in
       elim c.loop-i-test.branch [
-        else-loop-i-test w ↦ rw w.walked-is (walk_ends t loop.i loop.walked loop.invariant (◌⊎◌.inl w.loop-i-test.false)) |
-        then-loop-i-test+then-faults-gt0 w ↦ rw w.walked-is
+        | else-loop-i-test w ↦ rw w.walked-is (walk_ends t loop.i loop.walked loop.invariant (◌⊎◌.inl w.loop-i-test.false))
+        | then-loop-i-test+then-faults-gt0 w ↦ rw w.walked-is
             (walk_ends t (suc loop.i) w.seen_after-walked.result
             (one_more t sixty_four loop.invariant w.loop-i-test.true w.seen_after-walked.ensures) (◌⊎◌.inr w.if-faults-gt0.true))
       ]

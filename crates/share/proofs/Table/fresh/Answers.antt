@@ -1,5 +1,4 @@
 -- `Table::fresh` puts the event to the empty table with slice limit 1, which a refusal hands back.
-use borrow.Author.Rules.{rules}
 use Rattle.share.proofs.Table.fresh.Goals as goal
 
 pub returns : goal.returns

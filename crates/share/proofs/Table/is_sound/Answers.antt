@@ -5,7 +5,6 @@ use Rattle.rows.specs.declared.Row.{Row}
 use Rattle.head.specs.declared.surveying.Survey.{Survey}
 use Rattle.head.specs.Judged.{survey_of}
 use Rattle.share.proofs.Surveys.{may_survey, survey_tells}
-use borrow.Author.Rules.{rules}
 use Rattle.share.proofs.Table.is_sound.Goals as goal
 
 pub survey-seen-requires : goal.survey-seen-requires

@@ -3,7 +3,6 @@ use mathlib.Core.Path.{refl, subst⁻¹, ap, ◌∙◌, ◌≡◌}
 use Prim.Native.Nat.{ℕ}
 use Rattle.laws.proofs.Tests.{clash}
 use Rattle.rows.specs.declared.Request.{Request}
-use Rattle.rows.specs.declared.Row.{Row}
 use Rattle.rows.specs.declared.State.TheVariants.{Asking}
 use Rattle.rows.specs.Requests.{opened, entering}
 use Rattle.rows.proofs.Requests.{entering_orderly}

@@ -10,17 +10,13 @@ use Rattle.head.specs.declared.judging.Verdict.TheVariants.{Fine}
 use Rattle.head.specs.Refusals as checks
 use Rattle.share.specs.declared.Table.{Table}
 use Rattle.share.specs.Sound.{sound}
-use Prim.Native.Nat.{◌≤◌}
 use lib.ListN.{length}
-use Rattle.rows.specs.Numbers.{queues}
 use Rattle.head.specs.Refusals.{first_refusal, verdict_of}
 use Rattle.head.proofs.Verdicts.{judge_first}
 use Rattle.share.specs.Calls.{lag_checks, lag_reply}
-use Rattle.share.specs.Sound.{Sound}
 use Rattle.share.proofs.Accepted.{lags_accepted}
 use Rattle.share.proofs.Stepping.{none_applies_to, verdict_refused, verdict_fine, list_refused, list_written}
 use Rattle.share.proofs.Totals.{total_most}
-use borrow.Author.Rules.{rules}
 use Rattle.share.proofs.Table.lags.Goals as goal
 
 -- the verdict is that of the definition's checks

@@ -4,7 +4,6 @@ use Prim.Native.Nat.{ℕ}
 use Rattle.rows.specs.declared.Row.{Row}
 use Rattle.rows.specs.Requests.{row_next_set}
 use Rattle.rows.proofs.Requests.{next_orderly}
-use Rattle.share.specs.declared.Table.{Table}
 use Rattle.share.specs.Asks.{Placing}
 use Rattle.share.specs.Events.{length_set, meant}
 use Rattle.share.specs.Table.{row, placed}

@@ -4,7 +4,6 @@ use lib.ListN.{set}
 use Rattle.head.specs.declared.Head.{Head}
 use Rattle.share.specs.Table.{row, placed}
 use Rattle.share.proofs.Totals.{may_replace}
-use borrow.Author.Rules.{rules}
 use Rattle.share.proofs.Table.placed.Goals as goal
 
 pub replaced-t-requires : goal.replaced-t-requires

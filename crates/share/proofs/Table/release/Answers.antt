@@ -7,7 +7,6 @@ use Rattle.head.specs.declared.judging.Verdict.TheVariants.{Fine}
 use Rattle.head.specs.Refusals as checks
 use Rattle.share.specs.declared.Table.{Table}
 use Rattle.share.specs.Sound.{sound}
-use borrow.Author.Rules.{rules}
 use Rattle.share.specs.Calls.{accepted, release_checks, release_reply}
 use Rattle.head.specs.Refusals.{first_refusal, verdict_of}
 use Rattle.head.proofs.Verdicts.{judge_first}

@@ -5,7 +5,6 @@ use mathlib.Core.Logic.{◌⊎◌, ⊎_elim}
 use Prim.Native.Nat.{ℕ, ◌-◌, ◌<◌}
 use native.Mathlib.Omega.{arith}
 use lib.ListN.{set}
-use borrow.Author.Rules.{rules}
 use Rattle.laws.proofs.Tests.{clash}
 use Rattle.rows.specs.Row.{blank}
 use Rattle.rows.proofs.Shares.{position_small}
@@ -13,9 +12,8 @@ use Rattle.rows.proofs.Virtual.{reached_no}
 use Rattle.head.specs.declared.Head.{Head}
 use Rattle.head.specs.Judged.{Replacing}
 use Rattle.share.specs.declared.Table.{Table}
-use Rattle.share.specs.Asks.{Releasing}
-use Rattle.share.specs.Release.{freed, Frees, done, released}
-use Rattle.share.specs.Sound.{ready, Calm}
+use Rattle.share.specs.Release.{freed, Frees, done}
+use Rattle.share.specs.Sound.{ready}
 use Rattle.share.specs.Table.{row, placed}
 use Rattle.share.proofs.Passes.{Passing, pass_begins, pass_frees, pass_leaves, pass_over}
 use Rattle.share.proofs.Release.{same_end, released_frees, frees_released}
@@ -37,8 +35,8 @@ loop-t-init c =
       record { orderly = c.requires.orderly; still = c.requires.still },
       released_frees t,
       elim c.if-reached.branch [
-        then-reached w ↦ ◌⊎◌.inl (omega (arith, w.weight-is)) |
-        else-reached w ↦ ◌⊎◌.inr (settling_calm t c.args.nearest c.requires (reached_no _ _ _ (sym c.reached.ensures ∙ w.if-reached.false)))
+        | then-reached w ↦ ◌⊎◌.inl (omega (arith, w.weight-is))
+        | else-reached w ↦ ◌⊎◌.inr (settling_calm t c.args.nearest c.requires (reached_no _ _ _ (sym c.reached.ensures ∙ w.if-reached.false)))
       ],
     )
 

@@ -1,5 +1,5 @@
 use mathlib.Core.Logic.{◌⊎◌}
-use Prim.Native.Nat.{◌-◌, ◌<◌}
+use Prim.Native.Nat.{◌<◌}
 use Rattle.share.specs.Asks.{Releasing}
 use Rattle.share.specs.Release.{Frees, released}
 use Rattle.share.specs.Sound.{Calm}

@@ -1,6 +1,5 @@
 -- `Table::reported` is the definition; the denominator fits.
 use mathlib.Core.Path.{refl}
-use borrow.Author.Rules.{rules}
 use Rattle.head.specs.Lag.{lag_unit}
 use Rattle.share.proofs.Table.reported.Goals as goal
 

@@ -1,5 +1,5 @@
 -- `Table::reweighted`: the queue left is free again, so it joins; the release freed rows and moved none.
-use Rattle.share.specs.Events.{left, reweighted}
+use Rattle.share.specs.Events.{reweighted}
 use Rattle.share.proofs.Departing.{rejoins}
 use Rattle.share.proofs.Settling.{left_ahead}
 use Rattle.share.proofs.Table.reweighted.Goals as goal

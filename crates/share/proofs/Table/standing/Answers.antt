@@ -15,7 +15,6 @@ use Rattle.share.specs.Table.{row}
 use Rattle.share.proofs.Accepted.{standing_accepted}
 use Rattle.share.proofs.Stepping.{none_applies_to, verdict_refused, verdict_fine}
 use Rattle.share.proofs.Totals.{total_most}
-use borrow.Author.Rules.{rules}
 use Rattle.share.proofs.Table.standing.Goals as goal
 
 as_checked : (sound_told : Bool) (r : Row) (t : Table) (queue : ℕ) → sound_told ≡ sound t → r ≡ row t queue → verdict_of (first_refusal (Refusals.standing_checks sound_told r queue)) ≡ verdict_of (first_refusal (standing_checks t queue))
