@@ -2,8 +2,11 @@
 // `lines`; here bytes are moved. If reading or writing fails it says so on standard error and stops.
 #![tactic(auto)]
 
-use libc::{STDERR_FILENO, STDIN_FILENO, STDOUT_FILENO};
 use lines::State;
+use std::io::{Read, Write};
+
+// How many bytes are read, and written, at a time.
+const BUFFER: usize = 65_536;
 
 // A state, and whether there is anything left to do.
 #[derive(Clone, Copy)]
@@ -12,17 +15,17 @@ struct Step {
     again: bool,
 }
 
-fn main() {
-    let mut buf = io::large_buffer();
-    let mut out = io::large_buffer();
+fn main(rt: HostRuntime) {
+    let mut buf = [0; BUFFER];
+    let mut out = [0; BUFFER];
     let header = lines::header();
-    if put_out(&header) {
-        run(&mut buf, &mut out);
+    if put_out(&rt, &header) {
+        run(&rt, &mut buf, &mut out);
     }
 }
 
 // A proved loop has to end, and nothing says that input does: it counts its turns down from a number that no run uses up.
-fn run(buf: &mut [u8], out: &mut [u8]) {
+fn run(rt: &HostRuntime, buf: &mut [u8], out: &mut [u8]) {
     let mut step = Step {
         state: lines::begin(),
         again: true,
@@ -35,15 +38,15 @@ fn run(buf: &mut [u8], out: &mut [u8]) {
             return;
         }
         let state = step.state;
-        step = next(state, buf, out);
+        step = next(rt, state, buf, out);
     }
 }
 
 // Answers the whole lines that are held before it reads on.
-fn next(state: State, buf: &mut [u8], out: &mut [u8]) -> Step {
+fn next(rt: &HostRuntime, state: State, buf: &mut [u8], out: &mut [u8]) -> Step {
     let more = state.more;
     if more {
-        return advance(state, buf, out);
+        return advance(rt, state, buf, out);
     }
     let have = state.have;
     if buf.len() <= have {
@@ -52,26 +55,25 @@ fn next(state: State, buf: &mut [u8], out: &mut [u8]) -> Step {
             again: false,
         };
     }
-    let got = libc::read(STDIN_FILENO, &mut buf[have..]);
-    if got < 0 {
-        reading_failed();
-        return Step {
-            state,
-            again: false,
-        };
-    }
-    if got == 0 {
-        return last(state, buf, out);
-    }
-    let n = io::count(got, &buf[have..]);
-    Step {
-        state: state.grown(n),
-        again: true,
+    let mut input = rt.stdin();
+    match input.read(&mut buf[have..]) {
+        Ok(0) => last(rt, state, buf, out),
+        Ok(n) => Step {
+            state: state.grown(n),
+            again: true,
+        },
+        Err(_) => {
+            reading_failed(rt);
+            Step {
+                state,
+                again: false,
+            }
+        }
     }
 }
 
 // One turn, and what it wrote goes out. A turn that leaves whole lines and writes nothing can only be the last.
-fn advance(state: State, buf: &mut [u8], out: &mut [u8]) -> Step {
+fn advance(rt: &HostRuntime, state: State, buf: &mut [u8], out: &mut [u8]) -> Step {
     let after = lines::turn(state, buf, out);
     let written = after.written;
     if written == 0 {
@@ -81,7 +83,7 @@ fn advance(state: State, buf: &mut [u8], out: &mut [u8]) -> Step {
             again: !more,
         };
     }
-    let is_written = put_out(&out[..written]);
+    let is_written = put_out(rt, &out[..written]);
     Step {
         state: after,
         again: is_written,
@@ -89,9 +91,9 @@ fn advance(state: State, buf: &mut [u8], out: &mut [u8]) -> Step {
 }
 
 // The end of input: a line that has no newline counts.
-fn last(state: State, buf: &mut [u8], out: &mut [u8]) -> Step {
+fn last(rt: &HostRuntime, state: State, buf: &mut [u8], out: &mut [u8]) -> Step {
     let closed = lines::close(state, buf);
-    let step = advance(closed, buf, out);
+    let step = advance(rt, closed, buf, out);
     let after = step.state;
     Step {
         state: after,
@@ -99,18 +101,20 @@ fn last(state: State, buf: &mut [u8], out: &mut [u8]) -> Step {
     }
 }
 
-fn put_out(bytes: &[u8]) -> bool {
-    let is_written = io::write_all(STDOUT_FILENO, bytes);
+fn put_out(rt: &HostRuntime, bytes: &[u8]) -> bool {
+    let mut output = rt.stdout();
+    let is_written = output.write_all(bytes).is_ok();
     if !is_written {
-        writing_failed();
+        writing_failed(rt);
     }
     is_written
 }
 
-fn reading_failed() {
-    io::write_all(STDERR_FILENO, b"bandtrace: reading failed\n");
+// There is nobody left to tell if standard error fails too.
+fn reading_failed(rt: &HostRuntime) {
+    let _ = eprintln!(rt; "bandtrace: reading failed");
 }
 
-fn writing_failed() {
-    io::write_all(STDERR_FILENO, b"bandtrace: writing failed\n");
+fn writing_failed(rt: &HostRuntime) {
+    let _ = eprintln!(rt; "bandtrace: writing failed");
 }
