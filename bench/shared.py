@@ -15,7 +15,7 @@ import runs
 
 HERE = Path(__file__).resolve().parent
 ROOT = HERE.parent
-PROVED = ROOT / "target" / "bin" / "bandtrace"
+PROVED = ROOT / "crates" / "bandtrace" / "out" / "bandtrace"
 WORK = ROOT / "target" / "bench"
 QUEUES = (1, 6, 40, 64)
 SEED = 1
@@ -57,7 +57,7 @@ def check_equal(run, outputs):
 def options(description, lines):
     found = argparse.ArgumentParser(description=description)
     found.add_argument("--program", type=Path, default=PROVED,
-                       help="the proved program (default: target/bin/bandtrace)")
+                       help="the proved program (default: crates/bandtrace/out/bandtrace)")
     found.add_argument("--lines", type=int, default=lines)
     return found
 

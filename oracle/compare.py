@@ -26,7 +26,7 @@ import generate
 import oracle
 
 ROOT = Path(__file__).resolve().parent.parent
-PROVED = ROOT / "target" / "bin" / "bandtrace"
+PROVED = ROOT / "crates" / "bandtrace" / "out" / "bandtrace"
 PIECES_EVERY = 5
 
 RUNS_BY_HAND = {

@@ -2,7 +2,7 @@
 """Does a must-fail edit of code change what bandtrace prints?
 
 Each edit of src/ in the crates that bandtrace is made of is applied to a copy of the repository, and the program is built without proof and run on the
-gate's input (`rt try bandtrace`). An edit that prints the same is of code that this run does not reach; docs/DECISIONS.md names those.
+gate's input (`rt try`). An edit that prints the same is of code that this run does not reach; docs/DECISIONS.md names those.
 
     python3 oracle/edits.py              all of them, some ten seconds each
     python3 oracle/edits.py share/NAME   one
@@ -15,7 +15,8 @@ import tempfile
 
 ROOT = pathlib.Path(__file__).resolve().parent.parent
 CRATES = ("rows", "head", "share", "lines")
-DIFFERS = "the native program at -O3 ended, but did not write what is expected"
+RUN = ROOT / "crates" / "bandtrace" / "stdin"
+STORED = ROOT / "crates" / "bandtrace" / "stdout"
 
 
 def replacements(edit):
@@ -37,18 +38,18 @@ def prints(edit, crate):
         return None
     with tempfile.TemporaryDirectory() as folder:
         copy = pathlib.Path(folder) / "copy"
-        shutil.copytree(ROOT, copy, ignore=shutil.ignore_patterns("target", ".git"))
+        shutil.copytree(ROOT, copy, ignore=shutil.ignore_patterns("target", "out", ".git"))
         for name, old, new in changes:
             file = copy / "crates" / crate / name
             text = file.read_text(encoding="utf-8")
             if text.count(old) != 1:
                 return "the old text is not there once"
             file.write_text(text.replace(old, new), encoding="utf-8")
-        run = subprocess.run(["rt", "try", "bandtrace"], cwd=copy, capture_output=True, text=True)
-        said = run.stdout + run.stderr
-        if "FAIL" not in said and run.returncode != 0:
+        with open(RUN, "rb") as lines:
+            run = subprocess.run(["rt", "try"], cwd=copy / "crates" / "bandtrace", stdin=lines, capture_output=True)
+        if not run.stdout and run.returncode != 0:
             return "was not built"
-        return "something else" if DIFFERS in said else "the same"
+        return "the same" if run.stdout == STORED.read_bytes() else "something else"
 
 
 def main(wanted):
