@@ -17,6 +17,7 @@ pub const LONGEST: usize = 40;
 
 const MOST_DIGITS: usize = 5;
 
+#[tactic(auto, using(crate::proofs::Fields::long_name))]
 pub fn read_line(s: &[u8]) -> Line
     ensures { result ≡ read_line s.now }
 {

@@ -45,6 +45,7 @@ pub const UNSEEN: Seen = Seen {
 
 // Whether a bid goes before another: by its deadline, and under rule 2 of equal deadlines by its position. Of two that neither does, the lower number is
 // the first.
+#[tactic(auto, using(std::proofs::lemmas::Bool::Decides::nat_tests), unfolding(crate::specs::Order::goes_before))]
 pub fn goes_before(terms: Terms, bid: Bid, other: Bid) -> bool
     ensures { result ≡ order.goes_before terms bid other }
 {

@@ -1,21 +1,17 @@
 -- `read_line` takes the line field by field; at each `return` the fields found so far say what the definition makes of the whole line. The
--- lemmas follow the code, and say what is found at each stage.
+-- lemmas follow the code, and say what is found at each stage; that the line is short, has two bytes, and a space for the second of them, is in `c`.
 use mathlib.Core.Path.{sym, ◌∙◌}
 use Prim.Native.Nat.{◌≤◌}
 use native.Mathlib.Omega.{arith}
 use lib.ListN.{length}
-use Rattle.lines.proofs.Fields.{Lettered, OneFound, TwoFound, overlong, empty_line, one_byte, long_name, ends_within, no_first, one_number, no_second, two_numbers, no_third, three_numbers, four_fields}
+use Rattle.lines.proofs.Fields.{Lettered, OneFound, TwoFound, overlong, empty_line, one_byte, ends_within, no_first, one_number, no_second, two_numbers, no_third, three_numbers, four_fields}
 use Rattle.lines.proofs.reading.read_line.Goals as goal
-use Rattle.lines.proofs.reading.read_line.Goals.{Else-s-ne32, Else-i-s, Else-j-s}
-
--- The line is short and has two bytes, and the second is a space.
-lettered : (c : Else-s-ne32) → Lettered c.args.s.now
-lettered c = record { short = c.if-s-gt-LONGEST.false; two = omega (arith, c.if-s-eq0.false, c.if-s-eq1.false); gap = c.if-s-ne32.false }
+use Rattle.lines.proofs.reading.read_line.Goals.{Else-i-s, Else-j-s}
 
 -- A first number is found, and there is more after it.
 one_found : (c : Else-i-s) → OneFound c.args.s.now c.in-Decimal.a c.in-Decimal.i
 one_found c =
-    let l = lettered (goal.at.overflow_add-i c).Else-s-ne32 in
+    let l : Lettered c.args.s.now = record { short = omega arith; two = omega arith; gap = omega arith } in
     let inside : c.in-Decimal.i ≤ length c.args.s.now = ends_within _ 2 l.two (sym c.in-Decimal.ensures) in
     record { lettered = l; first = sym c.in-Decimal.ensures; more = omega (arith, c.if-i-s.false) }
 
@@ -35,16 +31,12 @@ returns-then-s-eq0 c = sym (empty_line _ c.if-s-eq0.true)
 pub returns-then-s-eq1 : goal.returns-then-s-eq1
 returns-then-s-eq1 c = c.with_none.ensures ∙ sym (one_byte _ c.if-s-eq1.true)
 
-pub returns-then-s-ne32 : goal.returns-then-s-ne32
-returns-then-s-ne32 c =
-    sym (long_name _ c.if-s-gt-LONGEST.false (omega (arith, c.if-s-eq0.false, c.if-s-eq1.false)) c.if-s-ne32.true)
-
 pub returns-in_default : goal.returns-in_default
-returns-in_default c = sym (no_first (lettered (goal.at.returns-in_default c).Else-s-ne32) (sym c.in_default.ensures))
+returns-in_default c = sym (no_first (record { short = omega arith; two = omega arith; gap = omega arith }) (sym c.in_default.ensures))
 
 pub returns-then-i-s : goal.returns-then-i-s
 returns-then-i-s c =
-    let l = lettered (goal.at.returns-then-i-s c).Else-s-ne32 in
+    let l : Lettered c.args.s.now = record { short = omega arith; two = omega arith; gap = omega arith } in
     c.with_one.ensures ∙ sym (one_number l (sym c.in-Decimal.ensures) c.if-i-s.true)
 
 pub overflow_add-i : goal.overflow_add-i
