@@ -15,7 +15,8 @@ Of README.md and docs/*.md it looks at
 - TRUST: the counts in brackets, every file of specs/ is named, and what follows a file of src/ in a list is there;
 - width: a line of prose has at most 160 characters.
 
-DECISIONS is history, and its names may be gone: of it only paths are looked at, in entries that are not replaced.
+DECISIONS is history, and its names may be gone: of it only paths are looked at, in entries that are not replaced. PORT sets old text beside new: of it
+only the width.
 """
 
 import re
@@ -24,7 +25,7 @@ from pathlib import Path
 
 ROOT = Path(__file__).resolve().parent.parent
 CRATES = ROOT / "crates"
-PROMISES, TRUST, DECISIONS = (ROOT / "docs" / n for n in ("PROMISES.md", "TRUST.md", "DECISIONS.md"))
+PROMISES, TRUST, DECISIONS, PORT = (ROOT / "docs" / n for n in ("PROMISES.md", "TRUST.md", "DECISIONS.md", "PORT.md"))
 README = ROOT / "README.md"
 WIDEST = 160
 WORDS = {"requires", "ensures"}         # of the language, not names
@@ -302,6 +303,8 @@ def main():
     for path in documents:
         text = without_fences(path.read_text(encoding="utf-8"))
         width(path, text)
+        if path == PORT:
+            continue
         if path == DECISIONS:
             entries = [e for e in text.split("\n\n") if "(replaced" not in e]
             paths(path, "\n\n".join(entries), strict=True)
