@@ -30,13 +30,13 @@ use Rattle.account.specs.Report.{virtual_time, reported}
 use Rattle.account.proofs.Frames as Frames
 use Rattle.account.proofs.Theorems as Theorems
 
-module _ (terms : Terms) (is-allowed : Allowed terms) (cs : List Call) where
+module _ (terms : Terms) (is_allowed : Allowed terms) (cs : List Call) where
   table_is : table_of terms cs ≡ table_after terms (events_of cs)
   unfolding table_after
-  table_is = from_fresh terms is-allowed cs
+  table_is = from_fresh terms is_allowed cs
 
   pub calls_sound : Sound (table_of terms cs)
-  calls_sound = subst⁻¹ Sound (from_fresh terms is-allowed cs) (run_sound terms is-allowed (events_of cs))
+  calls_sound = subst⁻¹ Sound (from_fresh terms is_allowed cs) (run_sound terms is_allowed (events_of cs))
 
   pub agree : (i : ℕ) → Agrees (row (table_of terms cs) i) (entry (account_of_calls terms cs) i)
   agree i = subst⁻¹ (λ (t : Table). Agrees (row t i) (entry (account_of_calls terms cs) i)) table_is (Theorems.agree terms (events_of cs) i)
@@ -48,11 +48,11 @@ module _ (terms : Terms) (is-allowed : Allowed terms) (cs : List Call) where
     pub report_is_account : (i : ℕ) → i < queues → reported (table_of terms cs) lent i ~ owed_to (entry (account_of_calls terms cs) i)
     report_is_account i inside =
         subst⁻¹ (λ (t : Table). reported t lent i ~ owed_to (entry (account_of_calls terms cs) i)) table_is
-        (Theorems.report_is_account terms is-allowed (events_of cs) lent long i inside)
+        (Theorems.report_is_account terms is_allowed (events_of cs) lent long i inside)
 
     pub report_level : summed (take queues (lag_list (table_of terms cs) lent)) ≡ pos 0
     report_level =
-        subst⁻¹ (λ (t : Table). summed (take queues (lag_list t lent)) ≡ pos 0) table_is (Theorems.report_level terms is-allowed (events_of cs) lent long)
+        subst⁻¹ (λ (t : Table). summed (take queues (lag_list t lent)) ≡ pos 0) table_is (Theorems.report_level terms is_allowed (events_of cs) lent long)
 
 -- from one point of a run to any later one V does not fall
 events_append : (cs ds : List Call) → events_of (cs ++ ds) ≡ events_of cs ++ events_of ds
@@ -70,10 +70,10 @@ events_go_on (report lent ∷ ds) h = events_go_on ds h
 events_go_on (standing queue ∷ ds) h = events_go_on ds h
 
 pub V_steady : (terms : Terms) → Allowed terms → (cs ds : List Call) → all call_goes_on ds ≡ true → at_most (virtual_time (table_of terms cs)) (virtual_time (table_of terms (cs ++ ds))) ≡ true
-V_steady terms is-allowed cs ds h =
-    subst⁻¹ (λ (t : Table). at_most (virtual_time t) (virtual_time (table_of terms (cs ++ ds))) ≡ true) (table_is terms is-allowed cs)
+V_steady terms is_allowed cs ds h =
+    subst⁻¹ (λ (t : Table). at_most (virtual_time t) (virtual_time (table_of terms (cs ++ ds))) ≡ true) (table_is terms is_allowed cs)
     (subst⁻¹ (λ (t : Table). at_most (virtual_time (table_after terms (events_of cs))) (virtual_time t) ≡ true)
-    (table_is terms is-allowed (cs ++ ds) ∙ ap (table_after terms) (events_append cs ds))
+    (table_is terms is_allowed (cs ++ ds) ∙ ap (table_after terms) (events_append cs ds))
     (Theorems.V_steady terms (events_of cs) (events_of ds) (events_go_on ds h)))
 
 -- a call alters only the rows that it names or releases

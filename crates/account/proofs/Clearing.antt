@@ -48,7 +48,7 @@ gain_goers f n (e ∷ es) = rw (credited_goes e, gain_goers f n es) refl
 
 counts : (x y : ℕ) (e : Entry) → is_going e ≡ true → x + goes e ≡ y + goes absent → x + 1 ≡ y
 unfolding goes
-counts x y e goes-away h = omega (arith, ap {B = ℕ} (λ (b : Bool). cond b 1 0) goes-away)
+counts x y e goes_away h = omega (arith, ap {B = ℕ} (λ (b : Bool). cond b 1 0) goes_away)
 
 goers_fall : (a : Account) (i : ℕ) → due (entry a i) ≡ true → goers (freed a i) + 1 ≡ goers a
 unfolding goers freed rest all_gain entry due

@@ -278,7 +278,7 @@ eleven_exactly_when_empty = Granting.grant_eleven
 
 -- 3. "Over any run of calls from a fresh table, each queue's reported lag equals its account worked out afresh from the run;"
 pub reported_lag_is_account : (terms : Terms) → Allowed terms → (cs : List Call) (lent : List ℤ) → queues ≤ length lent → (i : ℕ) → i < queues → reported (table_of terms cs) lent i ~ owed_to (entry (account_of_calls terms cs) i)
-reported_lag_is_account terms is-allowed cs lent long = Called.report_is_account terms is-allowed cs lent long
+reported_lag_is_account terms is_allowed cs lent long = Called.report_is_account terms is_allowed cs lent long
 
 -- (the two agree on who is free, going and asking, and on the weights;)
 pub account_and_table_agree : (terms : Terms) → Allowed terms → (cs : List Call) (i : ℕ) → Agrees (row (table_of terms cs) i) (entry (account_of_calls terms cs) i)
@@ -323,7 +323,7 @@ counted_twice_it_differs = Twice.twice_differs
 
 -- "the lags add up to nothing;"
 pub reported_lags_add_up_to_nothing : (terms : Terms) → Allowed terms → (cs : List Call) (lent : List ℤ) → queues ≤ length lent → summed (take queues (lag_list (table_of terms cs) lent)) ≡ pos 0
-reported_lags_add_up_to_nothing terms is-allowed cs lent long = Called.report_level terms is-allowed cs lent long
+reported_lags_add_up_to_nothing terms is_allowed cs lent long = Called.report_level terms is_allowed cs lent long
 
 pub accounts_add_up_to_nothing : (terms : Terms) (calls : List Event) → total (map owed_to (account_of terms calls).entries) ~ nothing
 accounts_add_up_to_nothing = Theorems.accounts_level

@@ -14,7 +14,7 @@ use Rattle.laws.proofs.Tests.{le_or_lt}
 use Rattle.rows.specs.declared.Row.{Row}
 use Rattle.rows.specs.Numbers.{queues, unit, max_weight}
 use Rattle.rows.specs.Requests.{opened, entering}
-use Rattle.rows.specs.Row.{is_free, weight_in as rowWeight}
+use Rattle.rows.specs.Row.{is_free, weight_in as weight_of_row}
 use Rattle.rows.proofs.Shares.{free_weighs_nothing}
 use Rattle.head.specs.Head.{summed}
 use Rattle.head.proofs.Entry.{entry_empty_lem, entry_not_below, entry_least}
@@ -36,7 +36,7 @@ same_entry t a h live =
     (entry_least t.head h (ceiling_of a.virtual) (ceiling_not_below live.clock))
 
 newcomer_alike : (w c l : ℕ) (f : Fraction) → 1 ≤ w → Alike (entering w c l) (newcomer w l f)
-unfolding entering opened newcomer rowWeight
+unfolding entering opened newcomer weight_of_row
 newcomer_alike w c l f h =
     record {
       free = refl;
@@ -93,8 +93,8 @@ entry_near t h = ⊎_elim lower higher (le_or_lt t.head.sum ((Share.entry t.head
         by (suc c) k = let same : suc c - 1 ≡ c = omega arith in omega (arith, rw same at k)
 
 -- with W at 0 no one is present and A is 0
-nobody : (A W : ℕ) (r : Row) (e : Entry) → 0 < W → Alike r e → rowWeight r ≡ 0 → Held A W r e
-nobody A W r absent h like none = record { lags = none_owed (rowWeight r) A (W * r.position) (W * unit) none (mul-pos h (omega arith)); bounded = tt }
+nobody : (A W : ℕ) (r : Row) (e : Entry) → 0 < W → Alike r e → weight_of_row r ≡ 0 → Held A W r e
+nobody A W r absent h like none = record { lags = none_owed (weight_of_row r) A (W * r.position) (W * unit) none (mul-pos h (omega arith)); bounded = tt }
 nobody A W r (present q) h like none = absurd (omega (arith, like.weighs like.free))
 
 -- what an entry does to a table that is tied
@@ -114,8 +114,8 @@ module _ (t : Table) (a : Account) (i w l : ℕ) (tied : Tied t a) (numbered : i
   u : Table
   u = placed t i r
 
-  row_weight : rowWeight r ≡ w
-  unfolding r entering rowWeight
+  row_weight : weight_of_row r ≡ w
+  unfolding r entering weight_of_row
   row_weight = refl
 
   terms_kept : a.terms ≡ u.head.terms
@@ -185,7 +185,7 @@ module _ (t : Table) (a : Account) (i w l : ℕ) (tied : Tied t a) (numbered : i
         }
 
     newcomer_held : Held t.head.sum t.head.total r (newcomer w l (minus gap))
-    unfolding r entering newcomer rowWeight c
+    unfolding r entering newcomer weight_of_row c
     newcomer_held =
         record {
           lags = value_change (mul-pos others (omega arith)) (omega arith) (value_minus gap_value);
@@ -221,7 +221,7 @@ module _ (t : Table) (a : Account) (i w l : ℕ) (tied : Tied t a) (numbered : i
     W_alone = omega (arith, W_new)
 
     first_held : Held u.head.sum u.head.total r (newcomer w l nothing)
-    unfolding r entering newcomer rowWeight
+    unfolding r entering newcomer weight_of_row
     first_held =
         rw (A_alone, W_alone)
         (record { lags = value_nothing (w * (w * c)) (w * unit) (mul-pos light (omega arith)); bounded = omega (arith, mul-pos some light) })

@@ -14,7 +14,7 @@ use Rattle.rows.specs.declared.State.TheVariants.{Free, Going, Asking}
 use Rattle.rows.specs.declared.Terms.{Terms}
 use Rattle.rows.specs.Numbers.{queues}
 use Rattle.rows.specs.Requests.{next_set}
-use Rattle.rows.specs.Row.{blank, is_free, is_asking, weight_in as rowWeight, moment_in as rowMoment}
+use Rattle.rows.specs.Row.{blank, is_free, is_asking, weight_in as weight_of_row, moment_in as moment_of_row}
 use Rattle.rows.proofs.Virtual.{reached_yes, yes_reached}
 use Rattle.rows.proofs.Shares.{asking_not_free}
 use Rattle.head.specs.Head.{sliced, empty_head}
@@ -57,7 +57,7 @@ at_replicate n j d =
     ⊎_elim (λ past. get_or-eq_default (replicate n d) d (rw (length-replicate n d) past)) (λ l. get_or-replicate n j d d l) (le_or_lt n j)
 
 pub fresh_tied : (terms : Terms) → Tied (empty_table terms) (no_one terms)
-unfolding empty_table empty_head no_one row true_total true_sum rowWeight rowMoment
+unfolding empty_table empty_head no_one row true_total true_sum weight_of_row moment_of_row
 fresh_tied terms =
     record {
       same_terms = refl;
@@ -65,7 +65,7 @@ fresh_tied terms =
           record {
             rows_each = length-replicate queues blank;
             entries_each = length-replicate queues absent;
-            sums = record { total_true = sym (nothing_sums rowWeight queues refl); sum_true = sym (nothing_sums rowMoment queues refl) };
+            sums = record { total_true = sym (nothing_sums weight_of_row queues refl); sum_true = sym (nothing_sums moment_of_row queues refl) };
             alike = λ j. rw (at_replicate queues j blank, at_replicate queues j absent) blank_alike;
           };
       live = λ h. absurd (omega arith);
@@ -76,7 +76,7 @@ same_numbers : (x y w w' p p' : ℕ) → x + w * p ≡ y + w' * p' → w' ≡ w 
 same_numbers x y w w' p p' e f g = let k : x + w * p ≡ y + w * p = rw (f, g) at e in omega arith
 
 -- a row set to another of the same weight at the same position, in both
-module _ (t : Table) (a : Account) (i : ℕ) (tied : Tied t a) (here : is_free (row t i).state ≡ false) (r : Row) (e : Entry) (same-part : rowWeight r ≡ rowWeight (row t i)) (same_place : r.position ≡ (row t i).position) (like : Alike r e) (keeps : (A W : ℕ) → Held A W (row t i) (entry a i) → Held A W r e) where
+module _ (t : Table) (a : Account) (i : ℕ) (tied : Tied t a) (here : is_free (row t i).state ≡ false) (r : Row) (e : Entry) (same_part : weight_of_row r ≡ weight_of_row (row t i)) (same_place : r.position ≡ (row t i).position) (like : Alike r e) (keeps : (A W : ℕ) → Held A W (row t i) (entry a i) → Held A W r e) where
   inside : i < length t.rows
   inside = present_inside t i here
 
@@ -85,8 +85,8 @@ module _ (t : Table) (a : Account) (i : ℕ) (tied : Tied t a) (here : is_free (
 
   A_same : (placed t i r).head.sum ≡ t.head.sum
   A_same =
-      same_numbers (placed t i r).head.sum t.head.sum (rowWeight (row t i)) (rowWeight r) (row t i).position r.position
-      (placed_sum t i r tied.matched.sums inside) same-part same_place
+      same_numbers (placed t i r).head.sum t.head.sum (weight_of_row (row t i)) (weight_of_row r) (row t i).position r.position
+      (placed_sum t i r tied.matched.sums inside) same_part same_place
 
   pub kept_tied : Tied (placed t i r) (record { entries = set a.entries i e; virtual = a.virtual; terms = a.terms })
   unfolding entry
@@ -113,7 +113,7 @@ abbrev gone : Row → Row
 gone r = record { weight = r.weight; position = r.position; state = Going }
 
 gone_alike : (r : Row) (e : Entry) → is_free r.state ≡ false → Alike r e → Alike (gone r) (going_away e)
-unfolding rowWeight
+unfolding weight_of_row
 gone_alike r absent here h = absurd (clash h.free here)
 gone_alike r (present q) here h =
     record {
@@ -125,14 +125,14 @@ gone_alike r (present q) here h =
     }
 
 gone_held : (r : Row) (e : Entry) (A W : ℕ) → is_free r.state ≡ false → Held A W r e → Held A W (gone r) (going_away e)
-unfolding rowWeight
+unfolding weight_of_row
 gone_held r absent A W here h =
     record { lags = rw (weight_here r here) at h.lags; bounded = tt }
 gone_held r (present q) A W here h =
     record { lags = rw (weight_here r here) at h.lags; bounded = rw (weight_here r here) at h.bounded }
 
-going_part : (r : Row) → is_free r.state ≡ false → rowWeight (gone r) ≡ rowWeight r
-unfolding rowWeight
+going_part : (r : Row) → is_free r.state ≡ false → weight_of_row (gone r) ≡ weight_of_row r
+unfolding weight_of_row
 going_part r here = sym (weight_here r here)
 
 entry_alike : (t : Table) (a : Account) (i : ℕ) → Tied t a → Alike (row t i) (entry a i)
@@ -155,7 +155,7 @@ module _ (t : Table) (a : Account) (i : ℕ) (tied : Tied t a) (asks : is_asking
       held : Held t.head.sum t.head.total (row t i) (get_or a.entries i absent)
       held = (live_at t a tied i here).held i
 
-      weighs : 1 ≤ rowWeight (row t i)
+      weighs : 1 ≤ weight_of_row (row t i)
       weighs = (tied.matched.alike i).weighs here
 
       owed : reached t (row t i).position ≡ true → settled (get_or a.entries i absent) ≡ reached t (row t i).position
@@ -186,12 +186,12 @@ next_free Free n w = refl
 next_free Going n w = refl
 next_free (Asking q) n w = refl
 
-next_part : (r : Row) (n : ℕ) → rowWeight (next_row r n) ≡ rowWeight r
-unfolding rowWeight
+next_part : (r : Row) (n : ℕ) → weight_of_row (next_row r n) ≡ weight_of_row r
+unfolding weight_of_row
 next_part r n = next_free r.state n r.weight
 
 next_alike : (s : State) (w p n : ℕ) (e : Entry) → Alike (record { weight = w; position = p; state = s }) e → Alike (record { weight = w; position = p; state = next_set s n }) (Acc.next_set e n)
-unfolding rowWeight
+unfolding weight_of_row
 next_alike Free w p n absent h = h
 next_alike Free w p n (present q) h = record { free = h.free; going = h.going; weight = h.weight; weighs = h.weighs; request = tt }
 next_alike Going w p n absent h = h

@@ -356,6 +356,6 @@ pub longest_is_seen : (terms : Terms) (calls : List Event) (i : ℕ) (q : Queue)
 unfolding account_of changes
 longest_is_seen terms calls i q e =
     let start : LongestIs (entry (no_one terms) i) 0 = begun_longest terms (no_one terms) i 0 refl in
-    let noted-so =
+    let noted_so =
     run_longest calls (empty_table terms) (no_one terms) (account_from (no_one terms) (changes terms calls)) i 0 (fresh_tied terms) start (account_books (no_one terms) (changes terms calls)) in
-    sym (ap longest_of e) ∙ noted-so.noted_is (ap is_absent e)
+    sym (ap longest_of e) ∙ noted_so.noted_is (ap is_absent e)

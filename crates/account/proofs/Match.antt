@@ -16,7 +16,7 @@ use Rattle.rows.specs.declared.Row.{Row}
 use Rattle.rows.specs.declared.State.{State}
 use Rattle.rows.specs.declared.State.TheVariants.{Free, Going, Asking}
 use Rattle.rows.specs.Numbers.{queues}
-use Rattle.rows.specs.Row.{blank, is_free, is_going, weight_in as rowWeight, moment_in as rowMoment}
+use Rattle.rows.specs.Row.{blank, is_free, is_going, weight_in as weight_of_row, moment_in as moment_of_row}
 use Rattle.head.specs.Head.{summed}
 use Rattle.rows.proofs.Shares.{moment_is}
 use Rattle.share.specs.declared.Table.{Table}
@@ -45,8 +45,8 @@ Requested (present e) s = SameRequestAs e.length e.served e.next e.longest s
 pub record Alike (r : Row) (e : Entry) : Type 0 where
   pub free : is_free r.state ≡ is_absent e
   pub going : is_going r.state ≡ Acc.is_going e
-  pub weight : rowWeight r ≡ weight_of e
-  pub weighs : is_free r.state ≡ false → 1 ≤ rowWeight r
+  pub weight : weight_of_row r ≡ weight_of e
+  pub weighs : is_free r.state ≡ false → 1 ≤ weight_of_row r
   pub request : Requested e r.state
 
 pub record Match (t : Table) (es : List Entry) : Type 0 where
@@ -65,7 +65,7 @@ same_sums f g (x ∷ xs) (y ∷ ys) d e l h = omega (arith, h zero, same_sums f 
 pub same_weight : {t : Table} {es : List Entry} → Match t es → weight_in es ≡ t.head.total
 unfolding weight_in true_total row
 same_weight {t} {es} m =
-    let same = same_sums rowWeight weight_of t.rows es blank absent (omega (arith, m.rows_each, m.entries_each)) (λ j. (m.alike j).weight) in
+    let same = same_sums weight_of_row weight_of t.rows es blank absent (omega (arith, m.rows_each, m.entries_each)) (λ j. (m.alike j).weight) in
     omega (arith, m.sums.total_true, same)
 
 pub placed_terms : (t : Table) (i : ℕ) (r : Row) → (placed t i r).head.terms ≡ t.head.terms
@@ -74,14 +74,14 @@ placed_terms t i r = refl
 
 -- what setting a row does to W and A, with nothing cut off
 module _ (t : Table) (i : ℕ) (r : Row) (sums : TrueSums t) (inside : i < length t.rows) where
-  pub placed_total : (placed t i r).head.total + rowWeight (row t i) ≡ t.head.total + rowWeight r
+  pub placed_total : (placed t i r).head.total + weight_of_row (row t i) ≡ t.head.total + weight_of_row r
   unfolding placed summed row true_total
-  placed_total = omega (arith, sums.total_true, sum_at rowWeight t.rows i blank inside)
+  placed_total = omega (arith, sums.total_true, sum_at weight_of_row t.rows i blank inside)
 
-  pub placed_sum : (placed t i r).head.sum + rowWeight (row t i) * (row t i).position ≡ t.head.sum + rowWeight r * r.position
+  pub placed_sum : (placed t i r).head.sum + weight_of_row (row t i) * (row t i).position ≡ t.head.sum + weight_of_row r * r.position
   unfolding placed summed row true_sum
   placed_sum =
-      omega (arith, sums.sum_true, sum_at rowMoment t.rows i blank inside, moment_is r, moment_is (get_or t.rows i blank))
+      omega (arith, sums.sum_true, sum_at moment_of_row t.rows i blank inside, moment_is r, moment_is (get_or t.rows i blank))
 
 -- what holds of a pair of rows set in both, and of all pairs before, holds of all pairs after
 module _ (P : Row → Entry → Type 0) (t : Table) (es : List Entry) (i : ℕ) (r : Row) (e : Entry) (inside : i < length t.rows) (within : i < length es) where
@@ -123,5 +123,5 @@ match_gain f n {t} {es} m =
     }
 
 pub blank_alike : Alike blank absent
-unfolding rowWeight
+unfolding weight_of_row
 blank_alike = record { free = refl; going = refl; weight = refl; weighs = λ h. absurd (clash refl h); request = tt }

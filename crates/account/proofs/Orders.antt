@@ -118,13 +118,13 @@ module _ (t : Table) (a b : Account) (ta : Tied t a) (tb : Tied t b) where
     returned_twins : (i used : ℕ) (early : Bool) → Twins (Acc.returned a i used early).entries (Acc.returned b i used early).entries
     unfolding Acc.returned
     returned_twins i used early =
-        let gained-a = all_gain (whole used) (weight_in a.entries) a.entries in
-        let gained-b = all_gain (whole used) (weight_in b.entries) b.entries in
+        let gained_a = all_gain (whole used) (weight_in a.entries) a.entries in
+        let gained_b = all_gain (whole used) (weight_in b.entries) b.entries in
         let gained = gained_twins (whole used) (whole used) (weight_in a.entries) (weight_in b.entries) a.entries b.entries h in
-        set_twins i (Acc.charged (get_or gained-a i absent) used early) (Acc.charged (get_or gained-b i absent) used early) gained-a gained-b
+        set_twins i (Acc.charged (get_or gained_a i absent) used early) (Acc.charged (get_or gained_b i absent) used early) gained_a gained_b
         (gained_length _ _ a.entries ∙ same_length ∙ sym (gained_length _ _ b.entries))
-        (charged_notes (get_or gained-a i absent) used early ∙ ap (λ (x : Entry). unpriced (Acc.charged x used early)) (gained.each i)
-        ∙ sym (charged_notes (get_or gained-b i absent) used early))
+        (charged_notes (get_or gained_a i absent) used early ∙ ap (λ (x : Entry). unpriced (Acc.charged x used early)) (gained.each i)
+        ∙ sym (charged_notes (get_or gained_b i absent) used early))
         gained
 
     freed_twins : (i : ℕ) → Twins (Acc.freed a i).entries (Acc.freed b i).entries

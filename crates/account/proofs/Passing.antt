@@ -80,9 +80,9 @@ module _ (t : Table) (i j : ℕ) (sums : TrueSums t) (inside : i < length t.rows
 
 -- one who is not free at the end stood there all along
 still_there : {t u : Table} (j : ℕ) → Frees t u → is_free (row u j).state ≡ false → is_free (row t j).state ≡ false
-still_there j way at-end =
-    ⊎_elim (λ same. ap (λ (x : Row). is_free x.state) (sym same) ∙ at-end)
-    (λ gone. absurd (clash (ap (λ (x : Row). is_free x.state) gone.0) at-end))
+still_there j way at_end =
+    ⊎_elim (λ same. ap (λ (x : Row). is_free x.state) (sym same) ∙ at_end)
+    (λ gone. absurd (clash (ap (λ (x : Row). is_free x.state) gone.0) at_end))
     (becomes j way)
 
 freed_sums : (t : Table) (i : ℕ) → i < length t.rows → TrueSums t → TrueSums (freed t i)
@@ -99,12 +99,12 @@ W_falls {t} sums (one i r rest) = omega (arith, W_falls (freed_true t i r sums) 
 
 -- along a whole release, in whatever order
 pub passes_all_once : {t u : Table} (way : Frees t u) (j : ℕ) → TrueSums t → is_free (row u j).state ≡ false → 0 < u.head.total → lag_in u j ~ lag_in t j ⊕ given_by way j
-passes_all_once {t} (done calm) j sums at-end some = turned (sum_nothing (lag_in t j))
-passes_all_once {t} (one i r rest) j sums at-end some =
-    let true-sums = freed_true t i r sums in
-    let left : 0 < (freed t i).head.total = omega (arith, W_falls true-sums rest) in
-    let apart = apart_from t i j (still_there j rest at-end) in
-    through (passes_all_once rest j true-sums at-end some)
+passes_all_once {t} (done calm) j sums at_end some = turned (sum_nothing (lag_in t j))
+passes_all_once {t} (one i r rest) j sums at_end some =
+    let true_sums = freed_true t i r sums in
+    let left : 0 < (freed t i).head.total = omega (arith, W_falls true_sums rest) in
+    let apart = apart_from t i j (still_there j rest at_end) in
+    through (passes_all_once rest j true_sums at_end some)
     (through (sum_same (passes_once t i j sums (ready_inside t i r) (going_not_free (row t i).state r.going) apart left) (Laws.same (given_by rest j)))
     (sum_grouped (lag_in t j) (given t i j) (given_by rest j)))
 
@@ -114,14 +114,14 @@ unfolding left leaving freed
 freed_first t queue owed = rw owed refl
 
 pub leave_passes : (t : Table) (queue j : ℕ) → Leaves t queue → AtMostV t (row t queue).position → is_free (row (left t queue) j).state ≡ false → 0 < (left t queue).head.total → lag_in (left t queue) j ~ lag_in t j ⊕ (given t queue j ⊕ given_by (released_frees (freed t queue)) j)
-leave_passes t queue j l owed at-end some =
+leave_passes t queue j l owed at_end some =
     let is = freed_first t queue (yes_reached _ _ _ owed) in
     let here = asking_not_free (row t queue).state l.asks in
     let o = l.was_sound.orderly_table in
     let inside : queue < length t.rows = omega (arith, l.inside, o.one_each) in
     let sums = sums_true o in
     let way = released_frees (freed t queue) in
-    let ended : is_free (row (released (freed t queue)) j).state ≡ false = subst (λ (u : Table). is_free (row u j).state ≡ false) is at-end in
+    let ended : is_free (row (released (freed t queue)) j).state ≡ false = subst (λ (u : Table). is_free (row u j).state ≡ false) is at_end in
     let left_over : 0 < (released (freed t queue)).head.total = subst (λ (u : Table). 0 < u.head.total) is some in
     let first : 0 < (freed t queue).head.total = omega (arith, W_falls (freed_sums t queue inside sums) way) in
     let apart = apart_from t queue j (still_there j way ended) in
@@ -131,9 +131,9 @@ leave_passes t queue j l owed at-end some =
     (sum_grouped (lag_in t j) (given t queue j) (given_by way j))))
 
 pub leave_shares : (t : Table) (queue j : ℕ) → number (step t (Leave queue)).answer ≡ 0 → AtMostV t (row t queue).position → let u : Table = (step t (Leave queue)).table in is_free (row u j).state ≡ false → 0 < u.head.total → lag_in u j ~ lag_in t j ⊕ (given t queue j ⊕ given_by (released_frees (freed t queue)) j)
-leave_shares t queue j e owed at-end some =
+leave_shares t queue j e owed at_end some =
     let fine = accepted_none t (Leave queue) e in
     let is : (step t (Leave queue)).table ≡ left t queue = ap (λ (r : Reply). r.table) (step_done t (Leave queue) fine) in
     subst⁻¹ (λ (u : Table). lag_in u j ~ lag_in t j ⊕ (given t queue j ⊕ given_by (released_frees (freed t queue)) j)) is
-    (leave_passes t queue j (leave_accepted t queue fine) owed (subst (λ (u : Table). is_free (row u j).state ≡ false) is at-end)
+    (leave_passes t queue j (leave_accepted t queue fine) owed (subst (λ (u : Table). is_free (row u j).state ≡ false) is at_end)
     (subst (λ (u : Table). 0 < u.head.total) is some))

@@ -12,7 +12,7 @@ use borrow.Author.Tests.{ne_eqb}
 use Rattle.laws.proofs.Tests.{clash, le_or_lt, and_left, and_right, and_both}
 use Rattle.rows.specs.declared.Row.{Row}
 use Rattle.rows.specs.Numbers.{queues, unit}
-use Rattle.rows.specs.Row.{blank, is_free, is_going, weight_in as rowWeight}
+use Rattle.rows.specs.Row.{blank, is_free, is_going, weight_in as weight_of_row}
 use Rattle.rows.proofs.Shares.{going_not_free}
 use Rattle.share.specs.declared.Table.{Table}
 use Rattle.share.specs.Release.{freed, Frees, done, one, Weighed, released}
@@ -31,15 +31,15 @@ use Rattle.account.proofs.Tied.{Held, Live, Tied, Moves, moved_clock, moved, bla
 use Rattle.account.specs.Account as Acc
 
 -- the sign of an account
-module _ {A W : ℕ} {r : Row} {e : Entry} (held : Held A W r e) (weighs : 1 ≤ rowWeight r) where
+module _ {A W : ℕ} {r : Row} {e : Entry} (held : Held A W r e) (weighs : 1 ≤ weight_of_row r) where
   pub settled_yes : r.position * W ≤ A → settled e ≡ true
   unfolding settled
-  settled_yes h = value_at_most (value_nothing 0 1 (omega arith)) held.lags (omega (arith, mul-le-mul_left (rowWeight r) h))
+  settled_yes h = value_at_most (value_nothing 0 1 (omega arith)) held.lags (omega (arith, mul-le-mul_left (weight_of_row r) h))
 
   pub yes_settled : settled e ≡ true → r.position * W ≤ A
   unfolding settled
   yes_settled h =
-      le_of_mul-le-mul_left {k = rowWeight r} (omega (arith, at_most_value (value_nothing 0 1 (omega arith)) held.lags h)) weighs
+      le_of_mul-le-mul_left {k = weight_of_row r} (omega (arith, at_most_value (value_nothing 0 1 (omega arith)) held.lags h)) weighs
 
 -- a row that is not free is one of the table's
 pub present_inside : (t : Table) (i : ℕ) → is_free (row t i).state ≡ false → i < length t.rows
@@ -92,17 +92,17 @@ present_weighs t a tied i here =
 
 -- the table that a departure leaves
 module _ (t : Table) (i : ℕ) (sums : TrueSums t) (inside : i < length t.rows) where
-  pub W_left : (freed t i).head.total + rowWeight (row t i) ≡ t.head.total
-  unfolding freed rowWeight
+  pub W_left : (freed t i).head.total + weight_of_row (row t i) ≡ t.head.total
+  unfolding freed weight_of_row
   W_left = omega (arith, placed_total t i blank sums inside)
 
-  A_left : (freed t i).head.sum + rowWeight (row t i) * (row t i).position ≡ t.head.sum
-  unfolding freed rowWeight
+  A_left : (freed t i).head.sum + weight_of_row (row t i) * (row t i).position ≡ t.head.sum
+  unfolding freed weight_of_row
   A_left = omega (arith, placed_sum t i blank sums inside)
 
   pub freed_rises : AtMostV t (row t i).position → t.head.sum * (freed t i).head.total ≤ (freed t i).head.sum * t.head.total
   freed_rises level =
-      rise_numbers t.head.sum t.head.total (freed t i).head.sum (freed t i).head.total (rowWeight (row t i)) (row t i).position A_left W_left level
+      rise_numbers t.head.sum t.head.total (freed t i).head.sum (freed t i).head.total (weight_of_row (row t i)) (row t i).position A_left W_left level
 
 freed_terms : (t : Table) (i : ℕ) → (freed t i).head.terms ≡ t.head.terms
 unfolding freed
@@ -125,15 +125,15 @@ module _ (t : Table) (a : Account) (i : ℕ) (tied : Tied t a) (here : is_free (
       let sums = tied.matched.sums in
       let before : 0 < t.head.total = omega (arith, W_left t i sums inside) in
       record {
-        plus = rowWeight (row t i) * t.head.sum;
-        less = rowWeight (row t i) * (t.head.total * (row t i).position);
+        plus = weight_of_row (row t i) * t.head.sum;
+        less = weight_of_row (row t i) * (t.head.total * (row t i).position);
         base = t.head.total * unit;
         amount = ((tied.live before).held i).lags;
         shared = h;
         before = before;
         after = h;
         move =
-            move_numbers t.head.sum t.head.total (freed t i).head.sum (freed t i).head.total unit (rowWeight (row t i)) (row t i).position
+            move_numbers t.head.sum t.head.total (freed t i).head.sum (freed t i).head.total unit (weight_of_row (row t i)) (row t i).position
             (A_left t i sums inside) (W_left t i sums inside);
         rises = freed_rises t i sums inside level;
       }
@@ -158,7 +158,7 @@ module _ (t : Table) (a : Account) (i : ℕ) (tied : Tied t a) (here : is_free (
       let before : 0 < t.head.total = present_weighs t a tied i here in
       rw (freed_rests t i none)
       (value_change (omega arith)
-      (rest_numbers t.head.sum t.head.total (rowWeight (row t i)) (row t i).position (omega (arith, W_left t i sums inside))
+      (rest_numbers t.head.sum t.head.total (weight_of_row (row t i)) (row t i).position (omega (arith, W_left t i sums inside))
       (omega (arith, A_left t i sums inside, no_sum (freed t i) rest_match.sums none)))
       (value_sum (tied.live before).clock (value_any_portion unit 0 (value_nothing 0 1 (omega arith)))))
 

@@ -20,7 +20,7 @@ use Rattle.rows.specs.declared.Row.{Row}
 use Rattle.rows.specs.declared.State.{State}
 use Rattle.rows.specs.declared.State.TheVariants.{Free, Going, Asking}
 use Rattle.rows.specs.Numbers.{queues, unit}
-use Rattle.rows.specs.Row.{blank, is_free, weight_in as rowWeight, moment_in as rowMoment}
+use Rattle.rows.specs.Row.{blank, is_free, weight_in as weight_of_row, moment_in as moment_of_row}
 use Rattle.rows.proofs.Shares.{moment_is, free_weighs_nothing}
 use Rattle.head.specs.declared.Answer.TheVariants.{Reported}
 use Rattle.head.specs.Answers.{denominator_given}
@@ -52,12 +52,12 @@ lag_as Free w A W p = record { same = omega arith }
 lag_as Going w A W p = difference_is (w * A) (w * (W * p))
 lag_as (Asking q) w A W p = difference_is (w * A) (w * (W * p))
 
-pub lag_is : (t : Table) (r : Row) → Is (lag_of t.head r) (rowWeight r * t.head.sum) (rowWeight r * (t.head.total * r.position))
-unfolding lag_of rowWeight
+pub lag_is : (t : Table) (r : Row) → Is (lag_of t.head r) (weight_of_row r * t.head.sum) (weight_of_row r * (t.head.total * r.position))
+unfolding lag_of weight_of_row
 lag_is t r = lag_as r.state r.weight t.head.sum t.head.total r.position
 
 -- where no one is present, nothing is owed and every lag is 0
-absent_owes : (r : Row) (e : Entry) → Alike r e → rowWeight r ≡ 0 → owed_to e ≡ nothing
+absent_owes : (r : Row) (e : Entry) → Alike r e → weight_of_row r ≡ 0 → owed_to e ≡ nothing
 absent_owes r absent like light = refl
 absent_owes r (present q) like light = absurd (omega (arith, like.weighs like.free))
 
@@ -86,26 +86,26 @@ module _ (t : Table) (a : Account) (tied : Tied t a) where
           rw (no_one_owed no_one i) (same_value (value_any_over (t.head.total * unit) (no_lag no_one i)) (value_nothing 0 _ (over_above (t.head.total * unit))))
 
   -- the lags of the table's rows add up to nothing
-  weights_times : (k : ℕ) (rs : List Row) → sum_of (λ r. rowWeight r * k) rs ≡ sum_of rowWeight rs * k
+  weights_times : (k : ℕ) (rs : List Row) → sum_of (λ r. weight_of_row r * k) rs ≡ sum_of weight_of_row rs * k
   weights_times k [] = omega arith
   weights_times k (r ∷ rs) = omega (arith, weights_times k rs)
 
-  moments_times : (k : ℕ) (rs : List Row) → sum_of (λ r. rowWeight r * (k * r.position)) rs ≡ sum_of rowMoment rs * k
+  moments_times : (k : ℕ) (rs : List Row) → sum_of (λ r. weight_of_row r * (k * r.position)) rs ≡ sum_of moment_of_row rs * k
   moments_times k [] = omega arith
   moments_times k (r ∷ rs) = omega (arith, moments_times k rs, ap (λ (x : ℕ). x * k) (moment_is r))
 
-  all_owed : sum_of (λ r. rowWeight r * t.head.sum) t.rows ≡ t.head.total * t.head.sum
+  all_owed : sum_of (λ r. weight_of_row r * t.head.sum) t.rows ≡ t.head.total * t.head.sum
   unfolding true_total
   all_owed = weights_times t.head.sum t.rows ∙ ap (λ (x : ℕ). x * t.head.sum) (sym tied.matched.sums.total_true)
 
-  all_had : sum_of (λ r. rowWeight r * (t.head.total * r.position)) t.rows ≡ t.head.sum * t.head.total
+  all_had : sum_of (λ r. weight_of_row r * (t.head.total * r.position)) t.rows ≡ t.head.sum * t.head.total
   unfolding true_sum
   all_had = moments_times t.head.total t.rows ∙ ap (λ (x : ℕ). x * t.head.total) (sym tied.matched.sums.sum_true)
 
   pub lags_level : summed (map (lag_of t.head) t.rows) ≡ pos 0
   lags_level =
       equal_is _ (pos 0)
-      (summed_is (lag_of t.head) (λ r. rowWeight r * t.head.sum) (λ r. rowWeight r * (t.head.total * r.position)) (lag_is t) t.rows) (itself (pos 0))
+      (summed_is (lag_of t.head) (λ r. weight_of_row r * t.head.sum) (λ r. weight_of_row r * (t.head.total * r.position)) (lag_is t) t.rows) (itself (pos 0))
       (omega (arith, all_owed, all_had))
 
   -- and so do the accounts
@@ -123,7 +123,7 @@ module _ (t : Table) (a : Account) (tied : Tied t a) where
       beside h =
           let some : 0 < t.head.total * unit = mul-pos h (omega arith) in
           let worth =
-          total_value (λ r. rowWeight r * t.head.sum) (λ r. rowWeight r * (t.head.total * r.position)) blank (t.head.total * unit) some
+          total_value (λ r. weight_of_row r * t.head.sum) (λ r. weight_of_row r * (t.head.total * r.position)) blank (t.head.total * unit) some
           (map owed_to a.entries) t.rows as_many (λ i. rw (owed_at i) ((tied.live h).held i).lags) in
           same_value (value_change some (rw (all_owed, all_had) (omega arith)) worth) (value_nothing 0 (t.head.total * unit) some)
 
@@ -157,13 +157,13 @@ module _ (t : Table) (a : Account) (tied : Tied t a) where
       let W : (placed t i blank).head.total ≡ 0 = sym (same_weight others) ∙ no_one in
       same_value
       (value_change held.lags.positive
-      (level_numbers t.head.sum t.head.total (rowWeight (row t i)) (row t i).position (t.head.total * unit)
+      (level_numbers t.head.sum t.head.total (weight_of_row (row t i)) (row t i).position (t.head.total * unit)
       (omega (arith, placed_total t i blank tied.matched.sums inside, free_weighs_nothing blank refl))
       (alone_sum (placed_sum t i blank tied.matched.sums inside) (no_sum (placed t i blank) others.sums W)))
       held.lags)
       (value_nothing 0 (t.head.total * unit) held.lags.positive)
     where
-      alone_sum : (placed t i blank).head.sum + rowWeight (row t i) * (row t i).position ≡ t.head.sum + rowWeight blank * 0 → (placed t i blank).head.sum ≡ 0 → t.head.sum ≡ rowWeight (row t i) * (row t i).position
+      alone_sum : (placed t i blank).head.sum + weight_of_row (row t i) * (row t i).position ≡ t.head.sum + weight_of_row blank * 0 → (placed t i blank).head.sum ≡ 0 → t.head.sum ≡ weight_of_row (row t i) * (row t i).position
       alone_sum x y = omega (arith, rw (free_weighs_nothing blank refl) at x)
 
   -- V
@@ -182,10 +182,10 @@ module _ (t : Table) (a : Account) (tied : Tied t a) where
           rw (eq-eqb t.head.total 0 no_one) (same_value (tied.rests no_one) (value_whole t.head.resting))
 
 -- the lag report of a sound table, on a list that is long enough
-module _ (t : Table) (lent : List ℤ) (sound-table : Sound t) (rows_each : length t.rows ≡ queues) (long : queues ≤ length lent) where
+module _ (t : Table) (lent : List ℤ) (sound_table : Sound t) (rows_each : length t.rows ≡ queues) (long : queues ≤ length lent) where
   not_refused : first_refusal (lag_checks t lent) ≡ none
   unfolding lag_checks
-  not_refused = rw (says_sound t sound-table, le-ltb (length lent) queues long) refl
+  not_refused = rw (says_sound t sound_table, le-ltb (length lent) queues long) refl
 
   list_is : lag_list t lent ≡ map (lag_of t.head) t.rows ++ drop queues lent
   unfolding lag_list lags_into

@@ -15,7 +15,7 @@ use Rattle.rows.specs.declared.Row.{Row}
 use Rattle.rows.specs.declared.State.TheVariants.{Asking}
 use Rattle.rows.specs.Numbers.{queues, unit, max_weight, step_of}
 use Rattle.rows.specs.Requests.{opened, served_to, charged}
-use Rattle.rows.specs.Row.{position_of, charged_to, weight_in as rowWeight}
+use Rattle.rows.specs.Row.{position_of, charged_to, weight_in as weight_of_row}
 use Rattle.rows.proofs.Steps.{weight_times_step}
 use Rattle.share.specs.declared.Table.{Table}
 use Rattle.share.specs.Table.{row, placed}
@@ -32,7 +32,7 @@ asking w p q = record { weight = w; position = p; state = Asking q }
 
 -- the account's request follows the row's
 request_alike : (b : Bool) (w p p' : ℕ) (q : Request) (e : Queue) (used : ℕ) → Alike (asking w p q) (present e) → Alike (record { weight = w; position = p'; state = Asking (cond b (opened p' q.next) (record { opening = q.opening; length = q.length; served = q.served + used; next = q.next })) }) (present (cond b (reopened e) (served_more e used)))
-unfolding opened rowWeight
+unfolding opened weight_of_row
 request_alike true w p p' q e used h =
     record {
       free = refl;
@@ -113,12 +113,12 @@ charged_bound {A} {W} {A'} {w} {p} {u} {q} l l' h a b c = ⊎_elim some none (le
     none : u < 1 → w * (W * (p + u * step_of w)) < w * A' + l' * (W * unit)
     none k = let z : u ≡ 0 = omega arith in rw z (none_used A' W unit w p (step_of w) l l' b c)
 
-charged_weight : (w p : ℕ) (q : Request) (u : ℕ) (early : Bool) → rowWeight (charged (asking w p q) u early) ≡ w
-unfolding rowWeight charged served_to
+charged_weight : (w p : ℕ) (q : Request) (u : ℕ) (early : Bool) → weight_of_row (charged (asking w p q) u early) ≡ w
+unfolding weight_of_row charged served_to
 charged_weight w p q u early = refl
 
 charged_held : {A W A' w p u : ℕ} {q : Request} (e : Entry) (early : Bool) → Holds A W A' w p u q → Alike (asking w p q) e → Held A' W (asking w p q) e → Held A' W (charged (asking w p q) u early) (Acc.charged e u early)
-unfolding charged served_to charged_to rowWeight
+unfolding charged served_to charged_to weight_of_row
 charged_held absent early h k l = absurd (clash refl (sym k.free))
 charged_held {A} {W} {A'} {w} {p} {u} {q} (present e) early h k l =
     record {
@@ -153,9 +153,9 @@ module _ (t : Table) (a : Account) (i used : ℕ) (early : Bool) (w p : ℕ) (q 
   u : Table
   u = placed t i r
 
-  row_weight : rowWeight (row t i) ≡ w
-  unfolding rowWeight
-  row_weight = ap rowWeight at
+  row_weight : weight_of_row (row t i) ≡ w
+  unfolding weight_of_row
+  row_weight = ap weight_of_row at
 
   W_same : u.head.total ≡ t.head.total
   unfolding u r

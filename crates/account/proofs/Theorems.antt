@@ -155,10 +155,10 @@ V_steady terms calls further h =
     at_most_like (turned (same_V terms calls)) (turned (same_V terms (calls ++ further))) (further_rises (empty_table terms) (no_one terms) calls further h)
 
 -- 2 and 4, of the lag report as the call hands it out, on a list that it does not refuse
-module _ (terms : Terms) (is-allowed : Allowed terms) (calls : List Event) (lent : List ℤ) (long : queues ≤ length lent) where
+module _ (terms : Terms) (is_allowed : Allowed terms) (calls : List Event) (lent : List ℤ) (long : queues ≤ length lent) where
   is_sound : Sound (table_after terms calls)
   unfolding table_after
-  is_sound = run_sound terms is-allowed calls
+  is_sound = run_sound terms is_allowed calls
 
   pub report_is_account : (i : ℕ) → i < queues → reported (table_after terms calls) lent i ~ owed_to (entry (account_of terms calls) i)
   report_is_account i inside =

@@ -9,7 +9,7 @@ use native.Mathlib.Omega.{arith}
 use lib.ListN.{get_or}
 use Rattle.rows.specs.declared.Row.{Row}
 use Rattle.rows.specs.Numbers.{unit}
-use Rattle.rows.specs.Row.{blank, weight_in as rowWeight}
+use Rattle.rows.specs.Row.{blank, weight_in as weight_of_row}
 use Rattle.share.specs.declared.Table.{Table}
 use Rattle.share.specs.Table.{row}
 use Rattle.fractions.specs.Fraction.{Fraction, nothing, ◌⊕◌, portion}
@@ -19,12 +19,12 @@ use Rattle.account.proofs.Match.{Match, gain_at}
 
 -- the account is the lag: weight x (A - W x position) over W x 720,720
 abbrev pub Lags : ℕ → ℕ → Row → Entry → Type 0
-Lags A W r e = Value (owed_to e) (rowWeight r * A) (rowWeight r * (W * r.position)) (W * unit)
+Lags A W r e = Value (owed_to e) (weight_of_row r * A) (weight_of_row r * (W * r.position)) (W * unit)
 
 -- minus the account is below the longest request: weight x (W x position - A) < longest x W x 720,720
 abbrev pub Bounded : ℕ → ℕ → Row → Entry → Type 0
 Bounded A W r absent = Unit {0}
-Bounded A W r (present q) = rowWeight r * (W * r.position) < rowWeight r * A + q.longest * (W * unit)
+Bounded A W r (present q) = weight_of_row r * (W * r.position) < weight_of_row r * A + q.longest * (W * unit)
 
 pub record Held (A W : ℕ) (r : Row) (e : Entry) : Type 0 where
   pub lags : Lags A W r e
@@ -82,18 +82,18 @@ module _ {A W A' W' : ℕ} {f : Fraction} {n : ℕ} (m : Moves A W A' W' f n) wh
       value_change m.after (clock_numbers A W A' W' unit m.plus m.less (m.base * n) m.move)
       (value_sum v (value_portion unit n m.shared m.amount))
 
-  moved_entry : (r : Row) (e : Entry) → rowWeight r ≡ weight_of e → Held A W r e → Held A' W' r (credited e (portion f (weight_of e) n))
+  moved_entry : (r : Row) (e : Entry) → weight_of_row r ≡ weight_of e → Held A W r e → Held A' W' r (credited e (portion f (weight_of e) n))
   moved_entry r absent same h =
-      record { lags = none_owed (rowWeight r) A' (W' * r.position) (W' * unit) same (mul-pos m.after (omega arith)); bounded = tt }
+      record { lags = none_owed (weight_of_row r) A' (W' * r.position) (W' * unit) same (mul-pos m.after (omega arith)); bounded = tt }
   moved_entry r (present q) same h =
       record {
         lags =
             rw (← same)
             (value_change (mul-pos m.after (omega arith))
-            (lag_numbers A W A' W' unit m.plus m.less (m.base * n) (rowWeight r) r.position m.move)
-            (value_sum h.lags (value_portion (rowWeight r) n m.shared m.amount)));
+            (lag_numbers A W A' W' unit m.plus m.less (m.base * n) (weight_of_row r) r.position m.move)
+            (value_sum h.lags (value_portion (weight_of_row r) n m.shared m.amount)));
         bounded =
-            bound_numbers A W A' W' unit (rowWeight r) r.position q.longest m.before m.after m.rises h.bounded;
+            bound_numbers A W A' W' unit (weight_of_row r) r.position q.longest m.before m.after m.rises h.bounded;
       }
 
   -- every row that gains is tied to the new V
@@ -103,5 +103,5 @@ module _ {A W A' W' : ℕ} {f : Fraction} {n : ℕ} (m : Moves A W A' W' f n) wh
       rw (gain_at f n es j) (moved_entry (row t j) (get_or es j absent) (match.alike j).weight (held j))
 
 pub blank_held : (A W : ℕ) → 0 < W → Held A W blank absent
-unfolding rowWeight
+unfolding weight_of_row
 blank_held A W h = record { lags = none_owed 0 A (W * 0) (W * unit) refl (mul-pos h (omega arith)); bounded = tt }

@@ -46,17 +46,17 @@ thirteen m a b x y = (5 * b - 21323 * a, omega arith)
 
 pub least_multiple : (m : ℕ) → 0 < m → ((w : ℕ) → 1 ≤ w → w ≤ max_weight → (k : ℕ) × (w * k ≡ m)) → unit ≤ m
 least_multiple m some each =
-    let by-16 = each 16 (omega arith) (omega arith) in
-    let by-9 = each 9 (omega arith) (omega arith) in
-    let by-5 = each 5 (omega arith) (omega arith) in
-    let by-7 = each 7 (omega arith) (omega arith) in
-    let by-11 = each 11 (omega arith) (omega arith) in
-    let by-13 = each 13 (omega arith) (omega arith) in
-    let first = nine m by-16.0 by-9.0 by-16.1 by-9.1 in
-    let second = five m first.0 by-5.0 first.1 by-5.1 in
-    let third = seven m second.0 by-7.0 second.1 by-7.1 in
-    let fourth = eleven m third.0 by-11.0 third.1 by-11.1 in
-    let fifth = thirteen m fourth.0 by-13.0 fourth.1 by-13.1 in
+    let by_16 = each 16 (omega arith) (omega arith) in
+    let by_9 = each 9 (omega arith) (omega arith) in
+    let by_5 = each 5 (omega arith) (omega arith) in
+    let by_7 = each 7 (omega arith) (omega arith) in
+    let by_11 = each 11 (omega arith) (omega arith) in
+    let by_13 = each 13 (omega arith) (omega arith) in
+    let first = nine m by_16.0 by_9.0 by_16.1 by_9.1 in
+    let second = five m first.0 by_5.0 first.1 by_5.1 in
+    let third = seven m second.0 by_7.0 second.1 by_7.1 in
+    let fourth = eleven m third.0 by_11.0 third.1 by_11.1 in
+    let fifth = thirteen m fourth.0 by_13.0 fourth.1 by_13.1 in
     omega (arith, fifth.1)
 
 sized : (w x : ℕ) → w ≤ max_weight → x ≤ ceiling * max_total → w * x ≤ 2 ^ 62

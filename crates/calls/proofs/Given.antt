@@ -70,7 +70,7 @@ chosen_is t i e = ap chosen_or0 e
 
 module _ (t : Table) (is : Sound t) where
   present : is_free (row t (chosen t)).state ≡ false → 0 < t.head.total
-  present taken = ⊎_elim (λ l. l) (λ none-there. absurd (clash ((empty_means t is.orderly_table).0 (omega arith) (chosen t)) taken)) (le_or_lt 1 t.head.total)
+  present taken = ⊎_elim (λ l. l) (λ none_there. absurd (clash ((empty_means t is.orderly_table).0 (omega arith) (chosen t)) taken)) (le_or_lt 1 t.head.total)
 
   pub ceiling_says : (ceiling_passed (row t (chosen t)) ≡ true) ↔ PastCeiling t
   unfolding ceiling_passed deadline bid eligible eligible_at
@@ -359,12 +359,12 @@ refused_by t c why e = by (first_refusal (checks_on t c)) refl
 
 -- and where nothing speaks against it the call is done
 pub done_where_nothing : (t : Table) (c : Call) → ((why : Refusal) → Against t c why → ⊥) → answered t c ≡ done_on t c
-done_where_nothing t c nothing-speaks = by (first_refusal (checks_on t c)) refl
+done_where_nothing t c nothing_speaks = by (first_refusal (checks_on t c)) refl
   where
     by : (o : Option Refusal) → first_refusal (checks_on t c) ≡ o → answered t c ≡ done_on t c
     by none is = answered_done t c is
     by (some given) is =
-        absurd (nothing-speaks given ((given_exactly t c given).0 (answered_refused t c given is).answer_is).0)
+        absurd (nothing_speaks given ((given_exactly t c given).0 (answered_refused t c given is).answer_is).0)
 
 -- refused, `fresh` has no table to hand back: neither for its limit, nor for a rule that there is not, nor for a default
 pub fresh_ruled_wrong : (terms : Terms) → (LimitWrong terms → ⊥) → RuleWrong terms → fresh_reply terms ≡ refused (empty_table least_terms) RuleOutside

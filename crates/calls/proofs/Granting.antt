@@ -46,9 +46,9 @@ use Rattle.calls.proofs.Choosing.{least_deadline, lowest_number, lesser_position
 
 -- a row that holds a slice is asking, and weighs at least 1
 held_weighs : (h : Head) (s : State) (w p : ℕ) → HeldBy h s w → OrderlyAs s w p → 1 ≤ w
-held_weighs h Free w p by-it o = absurd by-it
-held_weighs h Going w p by-it o = absurd by-it
-held_weighs h (Asking q) w p by-it o = o.0.weight_low
+held_weighs h Free w p by_it o = absurd by_it
+held_weighs h Going w p by_it o = absurd by_it
+held_weighs h (Asking q) w p by_it o = o.0.weight_low
 
 pub empty_still : (t : Table) → Sound t → t.head.total ≡ 0 → t.head.out ≡ false
 empty_still t is empty = by t.head.out refl
@@ -59,10 +59,10 @@ empty_still t is empty = by t.head.out refl
     by : (b : Bool) → t.head.out ≡ b → t.head.out ≡ false
     by false e = e
     by true e =
-        let by-holder = subst (λ (out : Bool). OrderlySlice t.head out (row t t.head.holder)) e o.slice in
+        let by_holder = subst (λ (out : Bool). OrderlySlice t.head out (row t t.head.holder)) e o.slice in
         let r = row t t.head.holder in
-        let inside : t.head.holder < length t.rows = omega (arith, by-holder.0, o.one_each) in
-        let heavy = held_weighs t.head r.state r.weight r.position by-holder.1 (o.each t.head.holder) in
+        let inside : t.head.holder < length t.rows = omega (arith, by_holder.0, o.one_each) in
+        let heavy = held_weighs t.head r.state r.weight r.position by_holder.1 (o.each t.head.holder) in
         absurd (omega (arith, weight_within t t.head.holder (sums_true o) inside, orderly_weight r (o.each t.head.holder)))
 
 -- the checks of a grant on a sound table: with W at 0 the table is empty, and with W above 0 it is not
@@ -94,7 +94,7 @@ unfolding step call
 grant_eleven t is = (
   λ e. ⊎_elim
       (λ present. absurd (never_eleven t.head.out (ceiling_passed (row t (chosen t))) t _ refl (rw (present_checks t is present) at e)))
-      (λ none-there. omega arith)
+      (λ none_there. omega arith)
       (le_or_lt 1 t.head.total),
   λ empty. ap (λ (r : Reply). number r.answer) (grant_refused_empty t is empty),
 )

@@ -87,7 +87,7 @@ module _ (t : Table) (o : Orderly t) (i : ℕ) (here : is_free (row t i).state �
       })
 
   stands_as : StandsAs t i (standing_at p W A)
-  stands_as = ⊎_elim (λ not_behind. ⊎_elim (λ not-ahead. level (omega arith)) ahead (le_or_lt (p * W) A)) behind (le_or_lt A (p * W))
+  stands_as = ⊎_elim (λ not_behind. ⊎_elim (λ reached_it. level (omega arith)) ahead (le_or_lt (p * W) A)) behind (le_or_lt A (p * W))
 
 -- the test whether V has reached a position is that it is not ahead
 pub reached_not_ahead : (h : Head) (position : ℕ) → (not_ahead (standing_by h position) ≡ true) ↔ AtMostV h position

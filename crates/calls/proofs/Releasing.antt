@@ -71,13 +71,13 @@ module _ (t : Table) (queue : ℕ) (r : Row) where
       let u : Table = released (placed t queue r) in
       let way = released_frees (placed t queue r) in
       let same : (i : ℕ) → i ≢ queue → row (placed t queue r) i ≡ row t i = λ i apart. placed_other t queue r i apart in
-      let becomes-of : (i : ℕ) → i ≢ queue → Becomes u i (row t i) = λ i apart. subst (Becomes u i) (same i apart) (becomes i way) in
+      let becomes_of : (i : ℕ) → i ≢ queue → Becomes u i (row t i) = λ i apart. subst (Becomes u i) (same i apart) (becomes i way) in
       record {
         others_same = λ i apart stays. frees_leaves i way (subst⁻¹ (λ (x : Row). is_going x.state ≡ false) (same i apart) stays) ∙ same i apart;
         freed_exactly = λ i apart going. (
-          λ free. ⊎_elim (λ stays. absurd (clash going (ap (λ (x : Row). is_going x.state) (sym stays ∙ free)))) (λ out. out.1) (becomes-of i apart),
-          λ level. ⊎_elim (λ stays. absurd (still_ready u i (row t i) (frees_calm way) stays going level)) (λ out. out.0) (becomes-of i apart),
+          λ free. ⊎_elim (λ stays. absurd (clash going (ap (λ (x : Row). is_going x.state) (sym stays ∙ free)))) (λ out. out.1) (becomes_of i apart),
+          λ level. ⊎_elim (λ stays. absurd (still_ready u i (row t i) (frees_calm way) stays going level)) (λ out. out.0) (becomes_of i apart),
         );
-        waits = λ i apart going far. ⊎_elim (λ stays. stays) (λ out. absurd (far out.1)) (becomes-of i apart);
+        waits = λ i apart going far. ⊎_elim (λ stays. stays) (λ out. absurd (far out.1)) (becomes_of i apart);
         none_left = frees_calm way;
       }

@@ -19,11 +19,11 @@ use Rattle.calls.specs.Public.{HandedBack}
 -- a call is refused or done
 pub call_cases : (P : Reply → Type 0) (checks : List Check) (t : Table) (event : Reply) → ((why : Refusal) → first_refusal checks ≡ some why → P (refused t why)) → (first_refusal checks ≡ none → P event) → P (call checks t event)
 unfolding call
-call_cases P checks t event if-refused if-done = by (first_refusal checks) refl
+call_cases P checks t event if_refused if_done = by (first_refusal checks) refl
   where
     by : (o : Option Refusal) → first_refusal checks ≡ o → P (call checks t event)
-    by none e = rw (call_accepted checks t event e) (if-done e)
-    by (some why) e = rw (call_refused checks t event why e) (if-refused why e)
+    by none e = rw (call_accepted checks t event e) (if_done e)
+    by (some why) e = rw (call_refused checks t event why e) (if_refused why e)
 
 pub fresh_refused : (terms : Terms) → limit_outside terms ≡ true → fresh_reply terms ≡ refused (empty_table least_terms) LimitOutside
 unfolding step checks_of checks_for

@@ -160,12 +160,12 @@ blank_row (suc n) (suc i) = blank_row n i
 
 pub empty_sound : (terms : Terms) → Allowed terms → Sound (empty_table terms)
 unfolding empty_table empty_head row true_total true_sum weight_in moment_in
-empty_sound terms is-allowed =
+empty_sound terms is_allowed =
     record {
       orderly_table =
           record {
             one_each = refl;
-            terms_allowed = is-allowed;
+            terms_allowed = is_allowed;
             each = λ i. subst⁻¹ OrderlyRow (blank_row queues i) (refl, refl);
             total_true = refl;
             sum_true = refl;
@@ -211,4 +211,4 @@ run_keeps (e ∷ es) t h = run_keeps es (step t e).table (step_keeps t e h)
 
 -- every table of a run from a fresh one
 pub run_sound : (terms : Terms) → Allowed terms → (es : List Event) → Sound (run (empty_table terms) es)
-run_sound terms is-allowed es = run_keeps es (empty_table terms) (empty_sound terms is-allowed)
+run_sound terms is_allowed es = run_keeps es (empty_table terms) (empty_sound terms is_allowed)

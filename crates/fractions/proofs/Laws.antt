@@ -101,8 +101,8 @@ sum_not_less f g l =
 
 pub portion_not_below : (f : Fraction) (m n : ℕ) → at_most nothing f ≡ true → at_most nothing (portion f m n) ≡ true
 portion_not_below f m n l =
-    let zero-value = value_nothing 0 1 (omega arith) in
-    value_at_most zero-value (value_any_portion m n (value_itself f)) (omega (arith, mul-le-mul_right m (at_most_value zero-value (value_itself f) l)))
+    let zero_value = value_nothing 0 1 (omega arith) in
+    value_at_most zero_value (value_any_portion m n (value_itself f)) (omega (arith, mul-le-mul_right m (at_most_value zero_value (value_itself f) l)))
 
 pub short_not_below : (f g : Fraction) → at_most f g ≡ true → at_most nothing (g ⊕ minus f) ≡ true
 short_not_below f g l =

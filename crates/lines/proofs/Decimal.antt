@@ -145,9 +145,9 @@ spelled (b ∷ c ∷ g) e =
     let dg : all digit (c ∷ g) ≡ true = and_right (digit b) (all digit (c ∷ g)) e.digits in
     let k : ℕ = 19 - suc (length g) in
     let fuel : k + suc (length g) ≡ 19 = omega (arith, e.few) in
-    let some-value : 1 ≤ 0 + (b - 48) = omega (arith, digit_low b db, eqb-false b 48 (not-true (eqb b 48) e.leads)) in
+    let some_value : 1 ≤ 0 + (b - 48) = omega (arith, digit_low b db, eqb-false b 48 (not-true (eqb b 48) e.leads)) in
     let whole : digits_in (k + suc (length g)) (value_from 0 (b ∷ c ∷ g)) ≡ digits_in k (0 + (b - 48)) ++ (c ∷ g) =
-    digits_value k (0 + (b - 48)) (c ∷ g) some-value dg in
+    digits_value k (0 + (b - 48)) (c ∷ g) some_value dg in
     sym (rw fuel at whole ∙ rw (this_digit b k db))
 
 pub decimal_only : (f : List ℕ) (v : ℕ) → decimal f ≡ some v → (f ≡ digits v) × (v < 100000)

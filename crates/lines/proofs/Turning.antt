@@ -115,13 +115,13 @@ bytes_more buf from have b h k =
 pub closed_newline : (s : State) (buf : List ℕ) → s.from < s.have → s.have < length buf
     → Closed s buf (set buf s.have newline) (record { table = s.table; line = s.line; from = s.from; have = s.have + 1; more = true; written = 0 })
 closed_newline s buf h k =
-    let some-held : 0 < length (held_in s buf) = simp (length-take, length-drop) (omega arith) in
+    let some_held : 0 < length (held_in s buf) = simp (length-take, length-drop) (omega arith) in
     let more : bytes_in (set buf s.have newline) s.from (s.have + 1) ≡ held_in s buf ++ (newline ∷ []) = bytes_more buf s.from s.have newline (omega arith) k in
     record {
       ends = λ a b. more;
       same = (refl, refl);
       prints =
-          λ u. rw (more, append-nil (held_in s buf ++ (newline ∷ [])), append-nil (held_in s buf)) (closed s.line s.table (held_in s buf) some-held u);
+          λ u. rw (more, append-nil (held_in s buf ++ (newline ∷ [])), append-nil (held_in s buf)) (closed s.line s.table (held_in s buf) some_held u);
     }
 
 -- A run of the program: turns, and input read in between, until there is none and nothing is held. `p` is all that it writes.

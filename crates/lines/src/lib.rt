@@ -7,7 +7,7 @@ mod writing;
 ghost use Rattle.std.specs.Prelude.{◌≡◌, ◌+◌, ◌≤◌, length, drop};
 ghost use Rattle.lines.specs.Cut.{newline, before};
 ghost use Rattle.lines.specs.Pieces.{Worked, MovedToFront, begun, idle_as, grown_by, Turned, Closed};
-ghost use Rattle.lines.specs.Print.{header as headerBytes};
+ghost use Rattle.lines.specs.Print.{header as header_bytes};
 
 pub use reading::{LONGEST, read_line};
 use share::{BROKEN, Line, Shown, Table};
@@ -31,7 +31,7 @@ pub struct State {
 
 // The first line that is printed.
 pub fn header() -> [u8; 32]
-    ensures { result ≡ headerBytes }
+    ensures { result ≡ header_bytes }
 {
     [
         b'l', b'i', b'n', b'e', b' ', b'a', b'n', b's', b'w', b'e', b'r', b' ', b'w', b'h', b'o',

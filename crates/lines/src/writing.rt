@@ -4,7 +4,7 @@ ghost use Rattle.std.proofs.lemmas.List.Edits.{sets};
 ghost use Rattle.lines.specs.Decimal.{digits};
 ghost use Rattle.lines.specs.Places.{last_digits, Wrote};
 ghost use Rattle.lines.specs.Places.{places as places_of};
-ghost use Rattle.lines.specs.Print.{shown_line, dashes as dashesOf, sums as sumsOf};
+ghost use Rattle.lines.specs.Print.{shown_line, dashes as dashes_of, sums as sums_of};
 
 use share::Shown;
 
@@ -36,7 +36,7 @@ pub(crate) fn write_answer(
 
 fn sums(out: &mut [u8], at: usize, sum: u64, total: u64) -> usize
     requires { at + 42 ≤ length out.old }
-    ensures { Wrote out.old at (sumsOf sum total) out.new result }
+    ensures { Wrote out.old at (sums_of sum total) out.new result }
 {
     let next = put(out, at, sum, b' ');
     put(out, next, total, b'\n')
@@ -44,7 +44,7 @@ fn sums(out: &mut [u8], at: usize, sum: u64, total: u64) -> usize
 
 fn dashes(out: &mut [u8], at: usize) -> usize
     requires { at + 4 ≤ length out.old }
-    ensures { Wrote out.old at dashesOf out.new result }
+    ensures { Wrote out.old at dashes_of out.new result }
 {
     out[at] = b'-';
     out[at + 1] = b' ';

@@ -26,6 +26,7 @@ pub fn lesser(a: u64, b: u64) -> u64
 
 // Where a position stands to V = A / W, by the cross product. Every test against V is this one. The units are those that V has yet to rise: where they
 // are not looked at, the built program does not divide.
+#[tactic(auto, using(crate::proofs::Virtual::is_behind, crate::proofs::Virtual::is_level))]
 pub fn stands(position: u64, total: u64, sum: u64) -> Standing
     requires { fits.Crossing position total }
     ensures { result ≡ virtual.standing_at position total sum }

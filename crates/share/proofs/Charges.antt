@@ -55,8 +55,8 @@ holding_as h (Asking q) w o = (q, refl, o)
 
 pub holding : (t : Table) (queue used : ℕ) → Returns t queue used → Holding t (row t queue)
 holding t queue used r =
-    let by-holder = subst (λ (out : Bool). OrderlySlice t.head out (held t)) r.held r.was_sound.orderly_table.slice in
-    let found = holding_as t.head (row t queue).state (row t queue).weight (rw r.holds by-holder.1) in
+    let by_holder = subst (λ (out : Bool). OrderlySlice t.head out (held t)) r.held r.was_sound.orderly_table.slice in
+    let found = holding_as t.head (row t queue).state (row t queue).weight (rw r.holds by_holder.1) in
     record { request = found.0; state_asking = found.1; orderly_holder = found.2 }
 
 -- a slice is at most what is left of the request

@@ -35,8 +35,8 @@ unfolding position_of
 row_above total sum Free w p h waits calm = omega arith
 row_above total sum Going w p h waits calm = above w p total sum (calm refl)
 row_above total sum (Asking q) w p h waits calm =
-    let opens-first : q.opening ≤ p = omega (arith, h.1.stands) in
-    above w p total sum (omega (arith, reached_no q.opening total sum waits, mul-le-mul_right total opens-first))
+    let opens_first : q.opening ≤ p = omega (arith, h.1.stands) in
+    above w p total sum (omega (arith, reached_no q.opening total sum waits, mul-le-mul_right total opens_first))
 
 -- with no row eligible, A x W would be more than itself
 pub some_eligible : (t : Table) → Sound t → 0 < t.head.total → choice t ≡ none → ⊥

@@ -47,7 +47,7 @@ pass_frees t₀ t i inv some r =
 
 -- or it is not ready, and then it was not when the pass began, if nothing was freed since
 pub pass_leaves : (t₀ t : Table) (i : ℕ) → Passing t₀ t i → 0 < i → (Ready t (i - 1) → ⊥) → Passing t₀ t (i - 1)
-pass_leaves t₀ t i inv some not-ready =
+pass_leaves t₀ t i inv some not_ready =
     record {
       inside = omega (arith, inv.inside);
       releasing = inv.releasing;
@@ -56,7 +56,7 @@ pass_leaves t₀ t i inv some not-ready =
     }
   where
     by : t ≡ t₀ → ((j : ℕ) → i ≤ j → Ready t₀ j → ⊥) → (j : ℕ) → i - 1 ≤ j → Ready t₀ j → Dec (j ≡ i - 1) → ⊥
-    by same later j l r (yes e) = not-ready (subst⁻¹ (λ (x : Table). Ready x (i - 1)) same (subst (Ready t₀) e r))
+    by same later j l r (yes e) = not_ready (subst⁻¹ (λ (x : Table). Ready x (i - 1)) same (subst (Ready t₀) e r))
     by same later j l r (no apart) = later j (omega arith) r
 
 -- a pass that is over and left W as it was found nothing to free

@@ -87,7 +87,7 @@ module _ (terms : Terms) (total sum : ℕ) (s : Seen) (at : ℕ) (w p : ℕ) (q 
         takes = λ b. absurd (clash b (rw (e, l) refl));
         stays = λ b. (refl, refl);
       }
-  asks false l e l-is =
+  asks false l e l_is =
       record {
         orderly = h;
         ahead = λ g. absurd (clash g refl);

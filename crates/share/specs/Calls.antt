@@ -22,8 +22,8 @@ use Rattle.share.specs.Events.{empty_table, joined, left, reweighted, length_set
 
 -- "A refusal hands the given table back equal"; with no refusal the event is done
 abbrev pub unless : {A : Type 0} → Option Refusal → (Refusal → A) → A → A
-unless none refuse do-it = do-it
-unless (some why) refuse do-it = refuse why
+unless none refuse do_it = do_it
+unless (some why) refuse do_it = refuse why
 
 abbrev pub refused : Table → Refusal → Reply
 refused t why = record { answer = Refused why; table = t }

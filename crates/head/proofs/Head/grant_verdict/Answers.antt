@@ -9,10 +9,6 @@ use Rattle.head.proofs.Head.grant_verdict.Goals as goal
 pub returns : goal.returns
 unfolding verdict_for checks_for is_empty
 returns c =
-    let at-ceiling-passed = c.before in
-    let after-or3 = at-ceiling-passed.before in
-    let after-or2 = after-or3.before.before in
-    let after-or = after-or2.before in
-    let a = after-or.args in
-    rw (c.or-4.ensures, after-or3.or-3.ensures, after-or2.or-2.ensures, after-or.or.ensures)
-    (judge_sound a.sound ((SliceOut when a.self.out) ∷ (TableEmpty when is_empty a.self) ∷ []) CeilingPassed at-ceiling-passed.ceiling_passed.result (ceiling_passed a.row) at-ceiling-passed.ceiling_passed.ensures)
+    let a = c.args in
+    rw (c.or-4.ensures, c.or-3.ensures, c.or-2.ensures, c.or.ensures)
+    (judge_sound a.sound ((SliceOut when a.self.out) ∷ (TableEmpty when is_empty a.self) ∷ []) CeilingPassed c.ceiling_passed.result (ceiling_passed a.row) c.ceiling_passed.ensures)

@@ -7,13 +7,6 @@ use Rattle.head.proofs.Head.length_verdict.Goals as goal
 pub returns : goal.returns
 unfolding verdict_for checks_for not_asking
 returns c =
-    let at-is-asking = c.before in
-    let after-or4 = at-is-asking.before in
-    let after-or3 = after-or4.before in
-    let at-length-outside = after-or3.before in
-    let after-or2 = at-length-outside.before in
-    let at-queue-outside = after-or2.before in
-    let after-or = at-queue-outside.before in
-    let a = after-or.args in
-    rw (c.or-5.ensures, at-is-asking.is_asking.ensures, after-or4.or-4.ensures, after-or3.or-3.ensures, at-length-outside.length_outside.ensures, after-or2.or-2.ensures, at-queue-outside.queue_outside.ensures, after-or.or.ensures)
+    let a = c.args in
+    rw (c.or-5.ensures, c.is_asking.ensures, c.or-4.ensures, c.or-3.ensures, c.length_outside.ensures, c.or-2.ensures, c.queue_outside.ensures, c.or.ensures)
     (judge_first (checks_for a.sound a.self a.row (Length a.queue a.length)))

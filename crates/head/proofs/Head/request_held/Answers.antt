@@ -20,11 +20,8 @@ returns-then-ticks-slice_least c =
 
 pub returns : goal.returns
 returns c =
-    let third = c.before in
-    let second = third.before.before in
-    let first = second.before.before in
-    let a = first.args in
+    let a = c.args in
     rw c.slice_most.ensures
-    (holder_last a.self a.weight a.q (sym first.reached.ensures ∙ first.if-not-reached.false)
-    (sym second.fits_ceiling.ensures ∙ second.if-not-fits_ceiling.false)
-    (rw third.slice_least.ensures at third.if-ticks-slice_least.false))
+    (holder_last a.self a.weight a.q (sym c.reached.ensures ∙ c.if-not-reached.false)
+    (sym c.fits_ceiling.ensures ∙ c.if-not-fits_ceiling.false)
+    (rw c.slice_least.ensures at c.if-ticks-slice_least.false))

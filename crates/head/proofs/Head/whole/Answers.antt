@@ -28,18 +28,14 @@ returns-then-not-rest_orderly c =
 
 pub returns : goal.returns
 returns c =
-    let fourth = c.before in
-    let third = fourth.before.before in
-    let second = third.before.before in
-    let first = second.before.before in
-    let a = first.args in
+    let a = c.args in
     both_ways _ _
     (λ e. says_whole a.self a.walked
     (record {
-      no_fault = omega (arith, first.if-faults-gt0.false);
-      total_is = second.if-weights-self.false;
-      sum_is = third.if-moments-self.false;
-      rest = rest_says a.self (sym fourth.rest_orderly.ensures ∙ fourth.if-not-rest_orderly.false);
+      no_fault = omega (arith, c.if-faults-gt0.false);
+      total_is = c.if-weights-self.false;
+      sum_is = c.if-moments-self.false;
+      rest = rest_says a.self (sym c.rest_orderly.ensures ∙ c.if-not-rest_orderly.false);
       terms_allowed = allowed_says _ (sym c.terms_allowed.ensures ∙ e);
     }))
     (λ e. c.terms_allowed.ensures ∙ says_allowed _ (whole_says a.self a.walked e).terms_allowed)

@@ -17,10 +17,8 @@ returns-then-rule_outside c = sym (rest_fails _ _ (first_fails _ _ (ap not (sym 
 pub returns : goal.returns
 unfolding allowed
 returns c =
-    let past-rule = c.before in
-    let past-limit = past-rule.before.before in
-    let terms = past-limit.args.terms in
-    let limit : not (limit_outside terms) ≡ true = ap not (sym past-limit.limit_outside.ensures ∙ past-limit.if-limit_outside.false) in
-    let rule : not (rule_outside terms) ≡ true = ap not (sym past-rule.rule_outside.ensures ∙ past-rule.if-rule_outside.false) in
+    let terms = c.args.terms in
+    let limit : not (limit_outside terms) ≡ true = ap not (sym c.limit_outside.ensures ∙ c.if-limit_outside.false) in
+    let rule : not (rule_outside terms) ≡ true = ap not (sym c.rule_outside.ensures ∙ c.if-rule_outside.false) in
     both_ways _ _ (λ e. each_every _ (limit, (rule, (ap not (sym c.default_outside.ensures) ∙ e, tt))))
     (λ e. ap not c.default_outside.ensures ∙ (every_each (not (limit_outside terms) ∷ not (rule_outside terms) ∷ not (default_outside terms) ∷ []) e).1.1.0)

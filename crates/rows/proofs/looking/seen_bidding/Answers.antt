@@ -7,8 +7,7 @@ use Rattle.rows.proofs.looking.seen_bidding.Goals as goal
 pub returns-then-reached : goal.returns-then-reached
 unfolding seen_bidding bid_of
 returns-then-reached c =
-    let held = c.before.before in
-    rw (c.bidding.ensures, c.deadline.ensures, ← held.reached.ensures, held.if-reached.true) refl
+    rw (c.bidding.ensures, c.deadline.ensures, ← c.reached.ensures, c.if-reached.true) refl
 
 pub returns : goal.returns
 unfolding seen_bidding

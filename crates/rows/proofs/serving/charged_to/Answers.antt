@@ -1,4 +1,4 @@
--- `charged` is the definition's sum, which fits: no call charges more ticks than the longest request has.
+-- `charged_to` is the definition's sum, which fits: no call charges more ticks than the longest request has.
 use native.Mathlib.Omega.{arith}
 use Rattle.rows.specs.Row.{charged_to}
 use Rattle.rows.proofs.Steps.{travel_most}

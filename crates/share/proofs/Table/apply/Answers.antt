@@ -31,7 +31,7 @@ use Rattle.share.specs.declared.Table.{Table}
 use Rattle.share.specs.Asks.{Ahead, Settling, Grants, Returns}
 use Rattle.share.specs.Calls.{accepted, checks_of, done_by, step}
 use Rattle.share.specs.Events.{chosen, slice_given, granted, returned}
-use Rattle.share.specs.Release.{released, done as frees-done}
+use Rattle.share.specs.Release.{released, done as frees_done}
 use Rattle.share.specs.Sound.{Sound}
 use Rattle.share.specs.Table.{row, placed, with_slice}
 use Rattle.share.specs.Walks.{Walked, Surveyed}
@@ -92,7 +92,7 @@ module _ (c : After-row-2-1) where
   surveyed : Surveyed t c.survey-seen.result
   unfolding row
   surveyed =
-      let held = c.before.before.before.before in
+      let held = (goal.at.verdict-requires c).After-held-1 in
       subst⁻¹ (Surveyed t) c.survey-seen.ensures
       (survey_tells t c.loop-i-test.walked (sixty_four held) (walk_over held) c.place-holding.result c.place-holding.ensures.same)
 
@@ -328,4 +328,4 @@ returns-else-reached c =
     let nearest = c.survey-seen.result.nearest in
     let above : c.exchanged-t.result < nearest * (holding r).head.total = reached_no _ _ _ (sym c.reached.ensures ∙ c.if-reached.false) in
     let calm = settling_calm (came_in r) nearest (settling r) (subst (λ (u : Table). u.head.sum < nearest * u.head.total) is above) in
-    ap accepted (is ∙ frees_released (weighed (settling r).orderly) (frees-done calm)) ∙ return_done r
+    ap accepted (is ∙ frees_released (weighed (settling r).orderly) (frees_done calm)) ∙ return_done r

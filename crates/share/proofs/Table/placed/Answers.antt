@@ -8,7 +8,7 @@ use Rattle.share.proofs.Table.placed.Goals as goal
 
 pub replaced-t-requires : goal.replaced-t-requires
 unfolding row
-replaced-t-requires c = let start = c.before.before in may_replace start.args.self start.args.queue start.args.row start.requires
+replaced-t-requires c = may_replace c.args.self c.args.queue c.args.row c.requires
 
 pub returns : goal.returns
 unfolding row placed
