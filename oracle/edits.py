@@ -2,9 +2,10 @@
 """Does a must-fail edit of code change what bandtrace prints?
 
 Each edit of src/ in the crates that bandtrace is made of is applied to a copy of the repository, and the program is built without proof and run on the
-gate's input (`rt try`). An edit that prints the same is of code that this run does not reach; docs/DECISIONS.md names those.
+gate's input (`rt try`). An edit that prints the same is of code that this run does not reach; docs/DECISIONS.md names those. A run that `rt try` stops at
+a fault (a sum that does not fit, a call that breaks a `requires`) counts as something else.
 
-    python3 oracle/edits.py              all of them, some ten seconds each
+    python3 oracle/edits.py              all of them, some half a minute each
     python3 oracle/edits.py share/NAME   one
 """
 import pathlib
