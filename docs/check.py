@@ -15,8 +15,8 @@ Of README.md and docs/*.md it looks at
 - TRUST: the counts in brackets, every file of specs/ is named, and what follows a file of src/ in a list is there;
 - width: a line of prose has at most 160 characters.
 
-DECISIONS is history, and its names may be gone: of it only paths are looked at, in entries that are not replaced. PORT sets old text beside new: of it
-only the width.
+DECISIONS is history, and its names may be gone: of it only paths are looked at, in entries that are not replaced. PORT and DESIGN-PASS set old text beside new:
+of them only the width.
 """
 
 import re
@@ -25,7 +25,8 @@ from pathlib import Path
 
 ROOT = Path(__file__).resolve().parent.parent
 CRATES = ROOT / "crates"
-PROMISES, TRUST, DECISIONS, PORT = (ROOT / "docs" / n for n in ("PROMISES.md", "TRUST.md", "DECISIONS.md", "PORT.md"))
+PROMISES, TRUST, DECISIONS, PORT, DESIGN = (ROOT / "docs" / n for n in (
+    "PROMISES.md", "TRUST.md", "DECISIONS.md", "PORT.md", "DESIGN-PASS.md"))
 README = ROOT / "README.md"
 WIDEST = 160
 WORDS = {"requires", "ensures"}         # of the language, not names
@@ -62,7 +63,7 @@ def declared(path):
         words = line.split("--")[0].split()
         while words and words[0] in MODIFIERS:
             words = words[1:]
-        if words and words[0] in ("record", "data") and len(words) > 1:
+        if words and words[0] in ("record", "data", "ruleset") and len(words) > 1:
             names.add(words[1])
         elif ":" in words:
             before = words[:words.index(":")]
@@ -77,7 +78,7 @@ def functions():
     for path in CRATES.glob("*/src/**/*.rt"):
         of = None
         for line in path.read_text(encoding="utf-8").splitlines():
-            if m := re.match(r"impl (\w+)", line):
+            if m := re.match(r"impl(?:<[^>]*>)? (\w+)", line):
                 of = m[1]
             elif line.startswith("}"):
                 of = None
@@ -303,7 +304,7 @@ def main():
     for path in documents:
         text = without_fences(path.read_text(encoding="utf-8"))
         width(path, text)
-        if path == PORT:
+        if path in (PORT, DESIGN):
             continue
         if path == DECISIONS:
             entries = [e for e in text.split("\n\n") if "(replaced" not in e]

@@ -8,113 +8,71 @@ use std::io::{Read, Write};
 // How many bytes are read, and written, at a time.
 const BUFFER: usize = 65_536;
 
-// A state, and whether there is anything left to do.
-#[derive(Clone, Copy)]
-struct Step {
-    state: State,
-    again: bool,
-}
-
 fn main(rt: HostRuntime) {
     let mut buf = [0; BUFFER];
     let mut out = [0; BUFFER];
-    let header = lines::header();
-    if put_out(&rt, &header) {
+    if put_out(&rt, &lines::header()) {
         run(&rt, &mut buf, &mut out);
     }
 }
 
-// A proved loop has to end, and nothing says that input does: it counts its turns down from a number that no run uses up.
+// A proved loop has to end, and nothing says that input does: it takes as many turns as no run uses up.
 fn run(rt: &HostRuntime, buf: &mut [u8], out: &mut [u8]) {
-    let mut step = Step {
-        state: lines::begin(),
-        again: true,
-    };
-    let mut turns = u64::MAX;
-    while turns > 0 {
-        turns -= 1;
-        let again = step.again;
-        if !again {
+    let mut state = lines::begin();
+    for _ in 0..u64::MAX {
+        let Some(after) = next(rt, state, buf, out) else {
             return;
-        }
-        let state = step.state;
-        step = next(rt, state, buf, out);
+        };
+        state = after;
     }
 }
 
-// Answers the whole lines that are held before it reads on.
-fn next(rt: &HostRuntime, state: State, buf: &mut [u8], out: &mut [u8]) -> Step {
-    let more = state.more;
-    if more {
+// Answers the whole lines that are held before it reads on. With no state there is nothing left to do.
+fn next(rt: &HostRuntime, state: State, buf: &mut [u8], out: &mut [u8]) -> Option<State> {
+    if state.more {
         return advance(rt, state, buf, out);
     }
-    let have = state.have;
-    if buf.len() <= have {
-        return Step {
-            state,
-            again: false,
-        };
+    if buf.len() <= state.have {
+        return None;
     }
-    let mut input = rt.stdin();
-    match input.read(&mut buf[have..]) {
-        Ok(0) => last(rt, state, buf, out),
-        Ok(n) => Step {
-            state: state.grown(n),
-            again: true,
-        },
+    match rt.stdin().read(&mut buf[state.have..]) {
+        Ok(0) => {
+            last(rt, state, buf, out);
+            None
+        }
+        Ok(n) => Some(state.grown(n)),
         Err(_) => {
-            reading_failed(rt);
-            Step {
-                state,
-                again: false,
-            }
+            failed(rt, "reading");
+            None
         }
     }
 }
 
 // One turn, and what it wrote goes out. A turn that leaves whole lines and writes nothing can only be the last.
-fn advance(rt: &HostRuntime, state: State, buf: &mut [u8], out: &mut [u8]) -> Step {
+fn advance(rt: &HostRuntime, state: State, buf: &mut [u8], out: &mut [u8]) -> Option<State> {
     let after = lines::turn(state, buf, out);
-    let written = after.written;
-    if written == 0 {
-        let more = after.more;
-        return Step {
-            state: after,
-            again: !more,
-        };
-    }
-    let is_written = put_out(rt, &out[..written]);
-    Step {
-        state: after,
-        again: is_written,
-    }
+    let goes_on = if after.written == 0 {
+        !after.more
+    } else {
+        put_out(rt, &out[..after.written])
+    };
+    goes_on.then_some(after)
 }
 
 // The end of input: a line that has no newline counts.
-fn last(rt: &HostRuntime, state: State, buf: &mut [u8], out: &mut [u8]) -> Step {
-    let closed = lines::close(state, buf);
-    let step = advance(rt, closed, buf, out);
-    let after = step.state;
-    Step {
-        state: after,
-        again: false,
-    }
+fn last(rt: &HostRuntime, state: State, buf: &mut [u8], out: &mut [u8]) {
+    let _ = advance(rt, lines::close(state, buf), buf, out);
 }
 
 fn put_out(rt: &HostRuntime, bytes: &[u8]) -> bool {
-    let mut output = rt.stdout();
-    let is_written = output.write_all(bytes).is_ok();
+    let is_written = rt.stdout().write_all(bytes).is_ok();
     if !is_written {
-        writing_failed(rt);
+        failed(rt, "writing");
     }
     is_written
 }
 
 // There is nobody left to tell if standard error fails too.
-fn reading_failed(rt: &HostRuntime) {
-    let _ = eprintln!(rt; "bandtrace: reading failed");
-}
-
-fn writing_failed(rt: &HostRuntime) {
-    let _ = eprintln!(rt; "bandtrace: writing failed");
+fn failed(rt: &HostRuntime, what: &str) {
+    let _ = eprintln!(rt; "bandtrace: {what} failed");
 }

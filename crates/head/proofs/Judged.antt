@@ -15,17 +15,13 @@ module _ (h : Head) (s : Seen) where
   whole_says e =
       let t = every_each _ e in
       record {
-        no_fault = eqb-true _ _ t.0;
-        total_is = eqb-true _ _ t.1.0;
-        sum_is = eqb-true _ _ t.1.1.0;
-        rest = rest_says h t.1.1.1.0;
-        terms_allowed = allowed_says h.terms t.1.1.1.1.0;
+        total_is = eqb-true _ _ t.0;
+        sum_is = eqb-true _ _ t.1.0;
+        rest = rest_says h t.1.1.0;
+        terms_allowed = allowed_says h.terms t.1.1.1.0;
       }
 
   pub says_whole : Whole h s → whole h s ≡ true
   unfolding whole
   says_whole w =
-      each_every _ (
-        eq-eqb _ _ w.no_fault,
-        (eq-eqb _ _ w.total_is, (eq-eqb _ _ w.sum_is, (says_rest h w.rest, (says_allowed h.terms w.terms_allowed, tt)))),
-      )
+      each_every _ (eq-eqb _ _ w.total_is, (eq-eqb _ _ w.sum_is, (says_rest h w.rest, (says_allowed h.terms w.terms_allowed, tt))))

@@ -8,6 +8,8 @@ pub mod Rest
 pub mod Slice
 -- whether a walk was whole is decided by its test
 pub mod Judged
+-- the request of an orderly row can be served
+pub mod Asking
 -- one refusal after another is the first of the list
 pub mod Verdicts
 -- the product that the code computes is the lag

@@ -1,5 +1,5 @@
 -- Document 01, "Numbers of refusal": the number and the values of each answer.
-use Rattle.std.specs.Prelude.{Bool, true, false, ℕ}
+use Rattle.std.specs.Prelude.{Bool, true, false, ℕ, Some, None}
 use Rattle.std.proofs.Math.Option.{Option, none, some}
 use Rattle.rows.specs.declared.Standing.{Standing}
 use Rattle.head.specs.declared.Answer.{Answer}
@@ -83,12 +83,12 @@ broken = 15
 
 -- an answer that grants nothing
 abbrev pub plainly : ℕ → Shown
-plainly answer = record { answer = answer; granted = false; queue = 0; slice = 0 }
+plainly answer = record { answer = answer; grant = None }
 
 -- an answer's number, and queue and slice where there is a grant
 abbrev pub shown_as : Answer → Shown
 shown_as Accepted = plainly 0
-shown_as (Granted queue slice) = record { answer = 0; granted = true; queue = queue; slice = slice }
+shown_as (Granted queue slice) = record { answer = 0; grant = Some (record { queue = queue; slice = slice }) }
 shown_as (Reported denominator) = plainly 0
 shown_as (Stands standing) = plainly 0
 shown_as (Refused why) = plainly (refusal_number why)

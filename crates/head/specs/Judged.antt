@@ -1,10 +1,11 @@
 -- What a walk over the rows and the head tell together, and what the functions of the head ask for. Nothing here is promised to a user.
-use Rattle.std.specs.Prelude.{◌≡◌, Bool, true, [], ◌∷◌, ℕ, ◌*◌, ◌≤◌, ◌<◌, eqb}
+use Rattle.std.specs.Prelude.{◌≡◌, Bool, true, cond, [], ◌∷◌, ◌*◌, ◌≤◌, ◌<◌, eqb, Option, Some, None, option_map}
 use Rattle.laws.specs.Lists.{every}
 use Rattle.rows.specs.declared.Request.{Request}
 use Rattle.rows.specs.declared.Row.{Row}
+use Rattle.rows.specs.declared.looking.First.{First}
 use Rattle.rows.specs.declared.looking.Seen.{Seen}
-use Rattle.rows.specs.Numbers.{max_weight, max_total, max_length, ceiling}
+use Rattle.rows.specs.Numbers.{max_total, max_length, ceiling}
 use Rattle.rows.specs.Row.{moment_in}
 use Rattle.rows.specs.Orderly.{OrderlyRow, Allowed, allowed}
 use Rattle.rows.specs.Fits.{Exchanging}
@@ -13,9 +14,8 @@ use Rattle.head.specs.declared.surveying.Survey.{Survey}
 use Rattle.head.specs.Rest.{OrderlyRest, orderly_rest}
 use Rattle.head.specs.Slice.{orderly_slice}
 
--- no row had a fault, the sums are the stored ones, the resting position is in order, and the terms are allowed
+-- of a walk that met no fault: the sums are the stored ones, the resting position is in order, and the terms are allowed
 pub record Whole (h : Head) (s : Seen) : Type 0 where
-  pub no_fault : s.faults ≡ 0
   pub total_is : s.weights ≡ h.total
   pub sum_is : s.moments ≡ h.sum
   pub rest : OrderlyRest h
@@ -23,10 +23,13 @@ pub record Whole (h : Head) (s : Seen) : Type 0 where
 
 unfoldable pub whole : Head → Seen → Bool
 whole h s =
-    every (eqb s.faults 0 ∷ eqb s.weights h.total ∷ eqb s.moments h.sum ∷ orderly_rest h ∷ allowed h.terms ∷ [])
+    every (eqb s.weights h.total ∷ eqb s.moments h.sum ∷ orderly_rest h ∷ allowed h.terms ∷ [])
 
-unfoldable pub survey_of : Head → Seen → Row → Survey
-survey_of h s r = record { sound = every (whole h s ∷ orderly_slice h h.out r ∷ []); queue = s.queue; nearest = s.nearest }
+abbrev pub told_by : Seen → Survey
+told_by s = record { chosen = option_map (λ (first : First). first.queue) s.first; nearest = s.nearest }
+
+unfoldable pub survey_of : Head → Seen → Row → Option Survey
+survey_of h s r = cond (every (whole h s ∷ orderly_slice h h.out r ∷ [])) (Some (told_by s)) None
 
 -- the walk met no row that is not orderly, so neither is the holder's
 pub record Surveying (h : Head) (s : Seen) (r : Row) : Type 0 where
@@ -55,10 +58,3 @@ pub record Servable (q : Request) : Type 0 where
 pub record Small (h : Head) : Type 0 where
   pub total_high : h.total ≤ max_total
   pub sum_high : h.sum ≤ ceiling * max_total
-
--- numbers whose lag fits
-pub record Lagging (weight position total sum : ℕ) : Type 0 where
-  pub weight_high : weight ≤ max_weight
-  pub position_high : position ≤ ceiling
-  pub total_high : total ≤ max_total
-  pub sum_high : sum ≤ ceiling * max_total

@@ -1,6 +1,6 @@
 -- Document 01, "Numbers of refusal": what each event is refused for, in its order. An event asks whether the table is sound, its head, and one row: that of
 -- the queue that it names, or for a grant that of the queue that is chosen.
-use Rattle.std.specs.Prelude.{Bool, false, not, cond, ◌&&◌, List, [], ◌∷◌, ℕ, leb, ltb, eqb}
+use Rattle.std.specs.Prelude.{Bool, false, not, cond, ◌&&◌, List, [], ◌∷◌, ℕ, leb, ltb, eqb, ⊤, Result, Ok, Err}
 use Rattle.std.proofs.Math.Option.{Option, none, some}
 use Rattle.rows.specs.declared.Row.{Row}
 use Rattle.rows.specs.declared.State.{State}
@@ -14,8 +14,6 @@ use Rattle.head.specs.declared.Event.TheVariants.{Fresh, Join, Leave, Reweight, 
 use Rattle.head.specs.declared.Head.{Head}
 use Rattle.head.specs.declared.Refusal.{Refusal}
 use Rattle.head.specs.declared.Refusal.TheVariants.{Unsound, QueueOutside, WeightOutside, LengthOutside, SliceOut, NotHolder, RowTaken, NotAsking, LagBelow, TicksOutside, TableEmpty, CeilingPassed, LimitOutside, RowFree, RuleOutside, DefaultOutside}
-use Rattle.head.specs.declared.judging.Verdict.{Verdict}
-use Rattle.head.specs.declared.judging.Verdict.TheVariants.{Fine, Refused}
 use Rattle.head.specs.Head.{is_empty, reached_by}
 
 -- a refusal, and the test that tells when it applies
@@ -28,14 +26,14 @@ abbrev pub first_refusal : List Check → Option Refusal
 first_refusal [] = none
 first_refusal ((why when applies) ∷ rest) = cond applies (some why) (first_refusal rest)
 
--- the same as a verdict, and one check more after those before it
-abbrev pub verdict_of : Option Refusal → Verdict
-verdict_of none = Fine
-verdict_of (some why) = Refused why
+-- the same as a verdict
+abbrev pub verdict_of : Option Refusal → Result ⊤ Refusal
+verdict_of none = Ok tt
+verdict_of (some why) = Err why
 
-abbrev pub or : Verdict → Refusal → Bool → Verdict
-or Fine why applies = cond applies (Refused why) Fine
-or (Refused first) why applies = Refused first
+-- and the verdict of one check
+abbrev pub refused_when : Refusal → Bool → Result ⊤ Refusal
+refused_when why applies = cond applies (Err why) (Ok tt)
 
 -- 2 "queue number above 63"
 unfoldable pub queue_outside : ℕ → Bool
@@ -139,5 +137,5 @@ checks_for sound h r Grant =
     ∷ []
 checks_for sound h r (Return queue used early) = return_checks sound h queue used
 
-unfoldable pub verdict_for : Bool → Head → Row → Event → Verdict
+unfoldable pub verdict_for : Bool → Head → Row → Event → Result ⊤ Refusal
 verdict_for sound h r e = verdict_of (first_refusal (checks_for sound h r e))

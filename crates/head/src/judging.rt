@@ -1,5 +1,6 @@
 // What each event is refused for, in its order: the first refusal that applies answers.
-ghost use Rattle.std.specs.Prelude.{◌≡◌, true};
+ghost use Rattle.std.specs.Prelude.{◌≡◌, ◌≤◌};
+ghost use Rattle.rows.specs.Numbers.{max_total};
 ghost use Rattle.rows.specs.Orderly.{OrderlyRow, limit_outside, rule_outside, default_outside};
 ghost use Rattle.head.specs.declared.Event.TheVariants.{Grant, Join, Leave, Length, Reweight};
 ghost use Rattle.head.specs.Answers.{refusal_number};
@@ -10,18 +11,12 @@ use crate::surveying::fits_ceiling;
 use crate::{Event, Head, Refusal};
 use rows::{Row, State, Terms, is_asking, is_free, outside};
 
-#[derive(Clone, Copy)]
-pub enum Verdict {
-    Fine,
-    Refused(Refusal),
-}
+// As the documents number them.
+impl From<Refusal> for u64 {
+    ghost from_gives = { λ why number. number ≡ refusal_number why };
 
-impl Refusal {
-    // As the documents number them.
-    pub fn number(self) -> u64
-        ensures { result ≡ refusal_number self }
-    {
-        match self {
+    fn from(why: Refusal) -> u64 {
+        match why {
             Refusal::Unsound => 1,
             Refusal::QueueOutside => 2,
             Refusal::WeightOutside => 3,
@@ -43,26 +38,19 @@ impl Refusal {
     }
 }
 
-impl Verdict {
-    // One refusal more to look for, after those before it.
-    pub fn or(self, why: Refusal, applies: bool) -> Verdict
-        ensures { result ≡ checks.or self why applies }
+impl Refusal {
+    // This refusal, if it applies.
+    pub fn when(self, applies: bool) -> Result<(), Refusal>
+        ensures { result ≡ checks.refused_when self applies }
     {
-        match self {
-            Verdict::Fine => {
-                if applies {
-                    return Verdict::Refused(why);
-                }
-                Verdict::Fine
-            }
-            Verdict::Refused(first) => Verdict::Refused(first),
-        }
+        if applies { Err(self) } else { Ok(()) }
     }
 }
 
 impl Head {
     // What speaks against an event, in the order in which it is looked for. The row is that of the queue that decides on it.
-    pub fn verdict(self, event: Event, sound: bool, row: Row) -> Verdict
+    #[tactic(auto, unfolding(crate::specs::Refusals::verdict_for, crate::specs::Refusals::checks_for))]
+    pub fn verdict(self, event: Event, sound: bool, row: Row) -> Result<(), Refusal>
         requires { judged.Judging sound self row }
         ensures { result ≡ checks.verdict_for sound self row event }
     {
@@ -85,28 +73,36 @@ impl Head {
         }
     }
 
-    fn join_verdict(self, sound: bool, row: Row, queue: u64, weight: u64, length: u64) -> Verdict
+    #[tactic(auto, unfolding(crate::specs::Refusals::verdict_for, crate::specs::Refusals::checks_for, crate::specs::Refusals::row_taken))]
+    fn join_verdict(
+        self,
+        sound: bool,
+        row: Row,
+        queue: u64,
+        weight: u64,
+        length: u64,
+    ) -> Result<(), Refusal>
         ensures { result ≡ checks.verdict_for sound self row (Join queue weight length) }
     {
-        Verdict::Fine
-            .or(Refusal::Unsound, !sound)
-            .or(Refusal::QueueOutside, queue_outside(queue))
-            .or(Refusal::WeightOutside, weight_outside(weight))
-            .or(Refusal::LengthOutside, length_outside(length))
-            .or(Refusal::SliceOut, self.out)
-            .or(Refusal::RowTaken, !is_free(row))
+        Refusal::Unsound.when(!sound)?;
+        Refusal::QueueOutside.when(queue_outside(queue))?;
+        Refusal::WeightOutside.when(weight_outside(weight))?;
+        Refusal::LengthOutside.when(length_outside(length))?;
+        Refusal::SliceOut.when(self.out)?;
+        Refusal::RowTaken.when(!is_free(row))
     }
 
-    fn leave_verdict(self, sound: bool, row: Row, queue: u64) -> Verdict
+    #[tactic(auto, unfolding(crate::specs::Refusals::verdict_for, crate::specs::Refusals::checks_for, crate::specs::Refusals::not_asking))]
+    fn leave_verdict(self, sound: bool, row: Row, queue: u64) -> Result<(), Refusal>
         ensures { result ≡ checks.verdict_for sound self row (Leave queue) }
     {
-        Verdict::Fine
-            .or(Refusal::Unsound, !sound)
-            .or(Refusal::QueueOutside, queue_outside(queue))
-            .or(Refusal::SliceOut, self.out)
-            .or(Refusal::NotAsking, !is_asking(row))
+        Refusal::Unsound.when(!sound)?;
+        Refusal::QueueOutside.when(queue_outside(queue))?;
+        Refusal::SliceOut.when(self.out)?;
+        Refusal::NotAsking.when(!is_asking(row))
     }
 
+    #[tactic(auto, unfolding(crate::specs::Refusals::verdict_for, crate::specs::Refusals::checks_for, crate::specs::Refusals::not_asking))]
     fn reweight_verdict(
         self,
         sound: bool,
@@ -114,112 +110,97 @@ impl Head {
         queue: u64,
         weight: u64,
         length: u64,
-    ) -> Verdict
+    ) -> Result<(), Refusal>
         requires { judged.Judging sound self row }
         ensures { result ≡ checks.verdict_for sound self row (Reweight queue weight length) }
     {
-        Verdict::Fine
-            .or(Refusal::Unsound, !sound)
-            .or(Refusal::QueueOutside, queue_outside(queue))
-            .or(Refusal::WeightOutside, weight_outside(weight))
-            .or(Refusal::LengthOutside, length_outside(length))
-            .or(Refusal::SliceOut, self.out)
-            .or(Refusal::NotAsking, !is_asking(row))
-            .or(Refusal::LagBelow, self.lag_below(sound, row))
+        Refusal::Unsound.when(!sound)?;
+        Refusal::QueueOutside.when(queue_outside(queue))?;
+        Refusal::WeightOutside.when(weight_outside(weight))?;
+        Refusal::LengthOutside.when(length_outside(length))?;
+        Refusal::SliceOut.when(self.out)?;
+        Refusal::NotAsking.when(!is_asking(row))?;
+        Refusal::LagBelow.when(self.lag_below(row))
     }
 
-    fn length_verdict(self, sound: bool, row: Row, queue: u64, length: u64) -> Verdict
+    #[tactic(auto, unfolding(crate::specs::Refusals::verdict_for, crate::specs::Refusals::checks_for, crate::specs::Refusals::not_asking))]
+    fn length_verdict(self, sound: bool, row: Row, queue: u64, length: u64) -> Result<(), Refusal>
         ensures { result ≡ checks.verdict_for sound self row (Length queue length) }
     {
-        Verdict::Fine
-            .or(Refusal::Unsound, !sound)
-            .or(Refusal::QueueOutside, queue_outside(queue))
-            .or(Refusal::LengthOutside, length_outside(length))
-            .or(Refusal::SliceOut, self.out)
-            .or(Refusal::NotAsking, !is_asking(row))
+        Refusal::Unsound.when(!sound)?;
+        Refusal::QueueOutside.when(queue_outside(queue))?;
+        Refusal::LengthOutside.when(length_outside(length))?;
+        Refusal::SliceOut.when(self.out)?;
+        Refusal::NotAsking.when(!is_asking(row))
     }
 
-    fn grant_verdict(self, sound: bool, row: Row) -> Verdict
+    #[tactic(auto, unfolding(crate::specs::Refusals::verdict_for, crate::specs::Refusals::checks_for, crate::specs::Head::is_empty))]
+    fn grant_verdict(self, sound: bool, row: Row) -> Result<(), Refusal>
         requires { judged.Judging sound self row }
         ensures { result ≡ checks.verdict_for sound self row Grant }
     {
-        Verdict::Fine
-            .or(Refusal::Unsound, !sound)
-            .or(Refusal::SliceOut, self.out)
-            .or(Refusal::TableEmpty, self.total == 0)
-            .or(Refusal::CeilingPassed, ceiling_passed(sound, row))
+        Refusal::Unsound.when(!sound)?;
+        Refusal::SliceOut.when(self.out)?;
+        Refusal::TableEmpty.when(self.total == 0)?;
+        Refusal::CeilingPassed.when(ceiling_passed(row))
     }
 
-    fn return_verdict(self, sound: bool, queue: u64, used: u64) -> Verdict
+    fn return_verdict(self, sound: bool, queue: u64, used: u64) -> Result<(), Refusal>
         ensures { result ≡ checks.verdict_of (checks.first_refusal (checks.return_checks sound self queue used)) }
     {
-        Verdict::Fine
-            .or(Refusal::Unsound, !sound)
-            .or(Refusal::QueueOutside, queue_outside(queue))
-            .or(Refusal::NotHolder, self.not_holder(queue))
-            .or(Refusal::TicksOutside, ticks_outside(self.ticks, used))
+        Refusal::Unsound.when(!sound)?;
+        Refusal::QueueOutside.when(queue_outside(queue))?;
+        Refusal::NotHolder.when(self.not_holder(queue))?;
+        Refusal::TicksOutside.when(ticks_outside(self.ticks, used))
     }
 
+    #[tactic(auto, unfolding(crate::specs::Refusals::not_holder))]
     fn not_holder(self, queue: u64) -> bool
         ensures { result ≡ checks.not_holder self queue }
     {
-        let out = self.out;
-        let holder = self.holder;
-        if out {
-            return queue != holder;
-        }
-        true
+        !self.out || queue != self.holder
     }
 
-    // The row's lag is below zero, if the table is sound: of another the product may not fit.
-    fn lag_below(self, sound: bool, row: Row) -> bool
-        requires { judged.Judging sound self row }
-        ensures { sound ≡ true → result ≡ checks.lag_below self row }
+    // The row's lag is below zero.
+    #[tactic(auto, unfolding(crate::specs::Refusals::lag_below))]
+    fn lag_below(self, row: Row) -> bool
+        requires { (OrderlyRow row) × (self.total ≤ max_total) }
+        ensures { result ≡ checks.lag_below self row }
     {
-        let position = row.position;
-        if sound {
-            return !self.reached(position);
-        }
-        false
+        !self.time().reached(row.position)
     }
 }
 
-fn fresh_verdict(terms: Terms) -> Verdict
+fn fresh_verdict(terms: Terms) -> Result<(), Refusal>
     ensures { result ≡ checks.verdict_of (checks.first_refusal (checks.fresh_checks terms)) }
 {
-    Verdict::Fine
-        .or(Refusal::LimitOutside, limit_outside(terms))
-        .or(Refusal::RuleOutside, rule_outside(terms))
-        .or(Refusal::DefaultOutside, default_outside(terms))
+    Refusal::LimitOutside.when(limit_outside(terms))?;
+    Refusal::RuleOutside.when(rule_outside(terms))?;
+    Refusal::DefaultOutside.when(default_outside(terms))
 }
 
 // What speaks against telling where a row stands.
-pub fn standing_verdict(sound: bool, row: Row, queue: u64) -> Verdict
+pub fn standing_verdict(sound: bool, row: Row, queue: u64) -> Result<(), Refusal>
     ensures { result ≡ checks.verdict_of (checks.first_refusal (checks.standing_checks sound row queue)) }
 {
-    Verdict::Fine
-        .or(Refusal::Unsound, !sound)
-        .or(Refusal::QueueOutside, queue_outside(queue))
-        .or(Refusal::RowFree, is_free(row))
+    Refusal::Unsound.when(!sound)?;
+    Refusal::QueueOutside.when(queue_outside(queue))?;
+    Refusal::RowFree.when(is_free(row))
 }
 
-// The deadline of the row that a grant would go to is above the ceiling, if the table is sound.
-fn ceiling_passed(sound: bool, row: Row) -> bool
-    requires { sound ≡ true → OrderlyRow row }
-    ensures { sound ≡ true → result ≡ checks.ceiling_passed row }
+// The deadline of the row that a grant would go to is above the ceiling.
+#[tactic(auto, using(crate::proofs::Asking::servable), unfolding(crate::specs::Refusals::ceiling_passed))]
+fn ceiling_passed(row: Row) -> bool
+    requires { OrderlyRow row }
+    ensures { result ≡ checks.ceiling_passed row }
 {
-    let weight = row.weight;
-    let state = row.state;
-    if sound {
-        return match state {
-            State::Free => false,
-            State::Going => false,
-            State::Asking(q) => !fits_ceiling(q, weight),
-        };
+    match row.state {
+        State::Asking(q) => !fits_ceiling(q, row.weight),
+        _ => false,
     }
-    false
 }
 
+#[tactic(auto, unfolding(crate::specs::Refusals::queue_outside))]
 fn queue_outside(queue: u64) -> bool
     ensures { result ≡ checks.queue_outside queue }
 {
@@ -232,34 +213,35 @@ fn weight_outside(weight: u64) -> bool
     outside(weight, 1, rows::MAX_WEIGHT)
 }
 
+#[tactic(auto, unfolding(crate::specs::Refusals::length_outside))]
 fn length_outside(length: u64) -> bool
     ensures { result ≡ checks.length_outside length }
 {
     rows::MAX_LENGTH < length
 }
 
+#[tactic(auto, unfolding(rows::specs::Orderly::limit_outside))]
 pub(crate) fn limit_outside(terms: Terms) -> bool
     ensures { result ≡ limit_outside terms }
 {
     outside(terms.limit, 1, rows::MAX_LIMIT)
 }
 
+#[tactic(auto, unfolding(rows::specs::Orderly::rule_outside))]
 pub(crate) fn rule_outside(terms: Terms) -> bool
     ensures { result ≡ rule_outside terms }
 {
     outside(terms.rule, 1, rows::MAX_RULE)
 }
 
+#[tactic(auto, unfolding(rows::specs::Orderly::default_outside))]
 pub(crate) fn default_outside(terms: Terms) -> bool
     ensures { result ≡ default_outside terms }
 {
-    let default = terms.default;
-    if default == rows::DEFAULT_LENGTH {
-        return false;
-    }
-    default != rows::FORMER_DEFAULT
+    terms.default != rows::DEFAULT_LENGTH && terms.default != rows::FORMER_DEFAULT
 }
 
+#[tactic(auto, unfolding(crate::specs::Refusals::ticks_outside))]
 fn ticks_outside(ticks: u64, used: u64) -> bool
     ensures { result ≡ checks.ticks_outside ticks used }
 {

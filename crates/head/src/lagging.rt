@@ -16,21 +16,15 @@ fn difference(due: u64, had: u64) -> i64
     due as i64 - had as i64
 }
 
-// weight x (A - W x position): equation 3 of the report over the common denominator.
-fn lag_by(weight: u64, position: u64, total: u64, sum: u64) -> i64
-    requires { judged.Lagging weight position total sum }
-    ensures { result ≡ weight * sum ⊖ weight * (total * position) }
-{
-    difference(weight * sum, weight * (total * position))
-}
-
 impl Head {
+    // weight x (A - W x position): equation 3 of the report over the common denominator.
+    #[tactic(auto, using(crate::proofs::Lags::lag_product))]
     pub fn lag_of(self, row: Row) -> i64
         requires { (judged.Small self) × (OrderlyRow row) }
         ensures { result ≡ lag.lag_of self row }
     {
-        let total = self.total;
-        let sum = self.sum;
-        lag_by(row.weight, row.position, total, sum)
+        let due = row.weight * self.sum;
+        let had = row.weight * (self.total * row.position);
+        difference(due, had)
     }
 }

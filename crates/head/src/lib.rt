@@ -12,12 +12,12 @@ mod resting;
 mod summing;
 mod surveying;
 
-pub use judging::{Verdict, standing_verdict};
+pub use judging::standing_verdict;
 use rows::{Standing, Terms};
 pub use surveying::Survey;
 
 // W is total and A is sum; resting is where V stands while no row is present, and zero while one is; holder and ticks are those of the slice that is
-// out, and zero when none is.
+// out, and zero when none is. No `Option` of the two: a table that is not sound may have any three, and goes back as it came.
 #[derive(Clone, Copy)]
 pub struct Head {
     pub total: u64,
@@ -90,23 +90,21 @@ pub enum Event {
     },
 }
 
-// What a line of input, or a record of a list, asks for: an event, or nothing that there is.
-#[derive(Clone, Copy)]
-pub enum Line {
-    Known(Event),
-    Broken,
-}
-
 // The answer to a line that asks for nothing that there is.
 pub const BROKEN: u64 = 15;
+
+// The queue that a slice is granted to, and the slice.
+#[derive(Clone, Copy)]
+pub struct Grant {
+    pub queue: u64,
+    pub slice: u64,
+}
 
 // An answer in numbers: which, and what was granted if anything was.
 #[derive(Clone, Copy)]
 pub struct Shown {
     pub answer: u64,
-    pub granted: bool,
-    pub queue: u64,
-    pub slice: u64,
+    pub grant: Option<Grant>,
 }
 
 impl Answer {
@@ -114,16 +112,12 @@ impl Answer {
         ensures { result ≡ shown_as self }
     {
         match self {
-            Answer::Accepted => Shown::plain(0),
+            Answer::Accepted | Answer::Reported { .. } | Answer::Stands(_) => Shown::plain(0),
             Answer::Granted { queue, slice } => Shown {
                 answer: 0,
-                granted: true,
-                queue,
-                slice,
+                grant: Some(Grant { queue, slice }),
             },
-            Answer::Reported { denominator: _ } => Shown::plain(0),
-            Answer::Stands(_) => Shown::plain(0),
-            Answer::Refused(why) => Shown::plain(why.number()),
+            Answer::Refused(why) => Shown::plain(why.into()),
         }
     }
 }
@@ -135,9 +129,7 @@ impl Shown {
     {
         Shown {
             answer,
-            granted: false,
-            queue: 0,
-            slice: 0,
+            grant: None,
         }
     }
 }
@@ -149,12 +141,12 @@ impl Event {
     {
         match self {
             Event::Fresh { .. } => 0,
-            Event::Join { queue, .. } => queue,
-            Event::Leave { queue } => queue,
-            Event::Reweight { queue, .. } => queue,
-            Event::Length { queue, .. } => queue,
             Event::Grant => chosen,
-            Event::Return { queue, .. } => queue,
+            Event::Join { queue, .. }
+            | Event::Leave { queue }
+            | Event::Reweight { queue, .. }
+            | Event::Length { queue, .. }
+            | Event::Return { queue, .. } => queue,
         }
     }
 }

@@ -8,37 +8,34 @@ use crate::Head;
 
 impl Head {
     // The least whole number not below V = A / W, or the resting position if the table is empty.
+    #[tactic(auto, unfolding(crate::specs::Head::entry, crate::specs::Head::is_empty))]
     pub fn entry(self) -> u64
         requires { judged.Small self }
         ensures { result ≡ heads.entry self }
     {
-        let total = self.total;
-        let sum = self.sum;
-        if total == 0 {
+        if self.total == 0 {
             return self.resting;
         }
-        (sum + (total - 1)) / total
+        (self.sum + (self.total - 1)) / self.total
     }
 
     // Within the ceiling while no row is present, and 0 while one is.
+    #[tactic(auto, unfolding(crate::specs::Rest::orderly_rest, crate::specs::Head::is_empty))]
     pub(crate) fn rest_orderly(self) -> bool
         ensures { result ≡ rests.orderly_rest self }
     {
-        let total = self.total;
-        let resting = self.resting;
-        if total == 0 {
-            return resting <= rows::CEILING;
+        if self.total == 0 {
+            self.resting <= rows::CEILING
+        } else {
+            self.resting == 0
         }
-        resting == 0
     }
 }
 
 // The resting position once a row that stood here has left: here, if it was the last.
+#[tactic(auto, unfolding(crate::specs::Rest::rest_after))]
 pub(crate) fn rest_after(total: u64, position: u64) -> u64
     ensures { result ≡ rests.rest_after total position }
 {
-    if total == 0 {
-        return position;
-    }
-    0
+    if total == 0 { position } else { 0 }
 }

@@ -9,14 +9,17 @@ use rows::{Row, exchanged, moment};
 
 impl Head {
     // The old row's share leaves W and A, the new row's enters; where no row is left, the table rests where the old one stood.
+    #[tactic(auto, using(rows::proofs::Shares::orderly_weight), unfolding(crate::specs::Head::summed))]
     pub fn replaced(self, old: Row, new: Row) -> Head
         requires { judged.Replacing self old new }
         ensures { result ≡ rests.replaced self old new }
     {
-        let mut h = self;
-        h.total = exchanged(h.total, old.weight, new.weight);
-        h.sum = exchanged(h.sum, moment(old), moment(new));
-        h.resting = rest_after(h.total, old.position);
-        h
+        let total = exchanged(self.total, old.weight, new.weight);
+        Head {
+            total,
+            sum: exchanged(self.sum, moment(old), moment(new)),
+            resting: rest_after(total, old.position),
+            ..self
+        }
     }
 }

@@ -3,14 +3,14 @@ use mathlib.Core.Path.{◌≡◌, refl}
 use mathlib.Core.List.{List, [], ◌∷◌}
 use Prim.Native.Nat.{ℕ}
 use Rattle.laws.specs.Lists.{every}
-use Rattle.head.specs.declared.Line.TheVariants.{Broken}
+use Rattle.std.specs.Prelude.{None}
 use Rattle.lines.specs.Cut.{cut_at}
 use Rattle.lines.specs.Decimal.{is_decimal, decimal}
 use Rattle.lines.specs.Grammar.{event_of, numbers, event_if, event_named, event_in, read_line}
 
 abbrev Refused : List (List ℕ) → Type 0
 Refused [] = Unit {0}
-Refused (l ∷ ls) = (read_line l ≡ Broken) × Refused ls
+Refused (l ∷ ls) = (read_line l ≡ None) × Refused ls
 
 abbrev broken : List (List ℕ)
 broken =

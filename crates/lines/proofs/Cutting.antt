@@ -1,16 +1,18 @@
 -- Where bytes are cut: up to the first mark stands the first part, and what follows the mark is cut by itself.
 use mathlib.Core.Path.{◌≡◌, refl, sym, ap, ◌∙◌}
-use mathlib.Core.Bool.{Bool, true, false}
+use mathlib.Core.Bool.{Bool, true, false, cond, not}
 use mathlib.Core.List.{List, [], ◌∷◌, ◌++◌, append-nil}
 use mathlib.Core.Logic.{⊎_elim}
 use Prim.Native.Nat.{ℕ, suc, ◌+◌, ◌≤◌, ◌<◌}
 use native.Mathlib.Nat.{le_of_suc-le-suc}
 use native.Mathlib.Numerals.{add-one}
 use native.Mathlib.Omega.{arith}
-use lib.Dec.{eqb}
+use lib.Dec.{eqb, ltb}
 use lib.ListN.{length, take, drop, get_or}
 use lib.Seq.{drop-cons, drop-length, take-length}
-use borrow.Author.Tests.{eq-eqb, ne_eqb}
+use borrow.Author.Tests.{eq-eqb, ne_eqb, ltb-true, ltb-false}
+use Rattle.std.specs.Prelude.{Option, None, Some, MatchOption}
+use Rattle.std.specs.List.{position_or_len}
 use Rattle.laws.proofs.Tests.{either}
 use Rattle.lines.specs.Cut.{part, cut_at, next_before, before}
 
@@ -38,6 +40,24 @@ module _ (m : ℕ) where
   before_length [] = omega arith
   before_length (b ∷ bs) =
       ⊎_elim (λ e. rw e (omega arith)) (λ e. rw e (let h : length (before m bs) ≤ length bs = before_length bs in omega arith)) (either (eqb b m))
+
+  -- the first mark is where a search finds it
+  pub before_position : (l : List ℕ) → length (before m l) ≡ position_or_len (λ b. eqb b m) l
+  unfolding before
+  before_position [] = refl
+  before_position (b ∷ bs) = by (eqb b m) (before_position bs)
+    where
+      by : (t : Bool) → length (before m bs) ≡ position_or_len (λ x. eqb x m) bs → length (next_before t b (before m bs)) ≡ cond (not t) (1 + position_or_len (λ x. eqb x m) bs) 0
+      by true ih = refl
+      by false ih = omega (arith, ih)
+
+  pub found_before : (l : List ℕ) {r : Option ℕ} → r ≡ cond (ltb (position_or_len (λ b. eqb b m) l) (length l)) (Some (position_or_len (λ b. eqb b m) l)) None
+      → MatchOption r (Unmarked m l) (λ n. (n ≡ length (before m l)) × (n < length l))
+  found_before l e = rw (e, ← before_position) (by (ltb (length (before m l)) (length l)) refl)
+    where
+      by : (t : Bool) → ltb (length (before m l)) (length l) ≡ t → MatchOption (cond t (Some (length (before m l))) None) (Unmarked m l) (λ n. (n ≡ length (before m l)) × (n < length l))
+      by true t = (refl, ltb-true (length (before m l)) (length l) t)
+      by false t = omega (arith, before_length l, ltb-false (length (before m l)) (length l) t)
 
   pub unmarked_tail : (b : ℕ) (p : List ℕ) → Unmarked m (b ∷ p) → (eqb b m ≡ false) × Unmarked m p
   unfolding before
@@ -111,21 +131,3 @@ module _ (m : ℕ) where
     pub found_nowhere : i ≡ length s → before m (drop i s) ≡ []
     unfolding before
     found_nowhere e = rw (e, drop-length)
-
--- what holds of the loop that looks for the mark: from here it stands where it stood from the start
-pub record Seeking (m : ℕ) (s : List ℕ) (from i : ℕ) : Type 0 where
-  pub within : i ≤ length s
-  pub same : i + length (before m (drop i s)) ≡ from + length (before m (drop from s))
-
-pub seeking_first : (m : ℕ) (s : List ℕ) (from : ℕ) → from ≤ length s → Seeking m s from from
-seeking_first m s from h = record { within = h; same = refl }
-
-module _ {m : ℕ} {s : List ℕ} {from i : ℕ} (w : Seeking m s from i) where
-  pub seeking_next : i < length s → (get_or s i 0 ≡ m → ⊥) → Seeking m s from (i + 1)
-  seeking_next h e = record { within = omega arith; same = omega (arith, w.same, ap length (found_later m s i h e)) }
-
-  pub sought_here : i < length s → get_or s i 0 ≡ m → i ≡ from + length (before m (drop from s))
-  sought_here h e = omega (arith, w.same, ap length (found_here m s i h e))
-
-  pub sought_nowhere : length s ≤ i → i ≡ from + length (before m (drop from s))
-  sought_nowhere h = omega (arith, w.same, ap length (found_nowhere m s i (omega (arith, w.within))))

@@ -2,19 +2,18 @@
 use mathlib.Core.Path.{◌≡◌, refl, sym, ap, ◌∙◌}
 use mathlib.Core.Bool.{Bool, true, false, cond, not}
 use mathlib.Core.List.{List, [], ◌∷◌, ◌++◌, append_assoc, append-nil}
-use mathlib.Core.Option.{some}
-use mathlib.Core.Logic.{⊎_elim}
+use Rattle.std.specs.Prelude.{Some}
 use Prim.Native.Nat.{ℕ, zero, suc, ◌+◌, ◌-◌, ◌*◌, ◌/◌, ◌%◌, ◌^◌, ◌≤◌, ◌<◌}
 use native.Mathlib.Nat.{add-zero, add-suc, suc-add, pow-suc}
 use native.Mathlib.Omega.{arith}
 use lib.Dec.{ltb, eqb}
 use lib.ListN.{length}
-use borrow.Author.Tests.{le-leb, lt-ltb, le-ltb, ltb-true, ltb-false, eqb-false, ne_eqb, not-true}
+use borrow.Author.Tests.{le-leb, ltb-true, ltb-false, eqb-false, ne_eqb, not-true}
 use Rattle.laws.specs.Lists.{all}
-use Rattle.laws.proofs.Tests.{clash, le_or_lt, and_left, and_right, and_both}
+use Rattle.laws.proofs.Tests.{clash, and_left, and_right, and_both}
 use Rattle.lines.specs.Decimal.{digit, no_leading_zero, value_from, decimal, digits_in, digits}
-use Rattle.lines.specs.Places.{places_in}
-use Rattle.lines.proofs.Digits.{digits_length, places_one, places_more}
+use Rattle.std.proofs.lemmas.Fmt.{length-decimal-le, decimal_nonempty}
+use Rattle.lines.proofs.Digits.{one_digit, more_digits, digits_decimal}
 use Rattle.lines.proofs.Decimals.{EndsDecimal, decimal_contd, makes, makes_only, digit_low, digit_high, grows, five_digits}
 
 -- ten digits, and no more
@@ -78,44 +77,17 @@ unfolding digits_in
 leads zero h = refl
 leads (suc n) h = first_leads (digits (suc n)) (first_digits 19 (suc n) h (omega arith))
 
--- so many digits as the power of ten above says
-few_places : (k j n : ℕ) → n < 10 ^ suc j → places_in k n ≤ suc j
-unfolding places_in
-few_places zero j n h = omega arith
-few_places (suc k) zero n h = omega (arith, places_one (suc k) n (omega arith))
-few_places (suc k) (suc j) n h =
-    ⊎_elim (λ (l : 10 ≤ n). omega (arith, places_more k n l, few_places k j (n / 10) (omega (arith, rw pow-suc at h))))
-    (λ (l : n < 10). omega (arith, places_one (suc k) n l)) (le_or_lt 10 n)
-
 pub few_digits : (n : ℕ) → n < 100000 → length (digits n) ≤ 5
-few_digits n h = rw (digits_length n) (few_places 19 4 n h)
+few_digits n h = rw (digits_decimal n (omega arith)) (length-decimal-le 5 n (omega arith) h (omega arith))
 
-places_some : (k n : ℕ) → 1 ≤ places_in k n
-unfolding places_in
-places_some zero n = omega arith
-places_some (suc k) n = by (ltb n 10)
-  where
-    by : (t : Bool) → 1 ≤ cond t 1 (suc (places_in k (n / 10)))
-    by true = omega arith
-    by false = omega arith
-
-pub decimal_digits : (n : ℕ) → n < 100000 → decimal (digits n) ≡ some n
+pub decimal_digits : (n : ℕ) → n < 100000 → decimal (digits n) ≡ Some n
 decimal_digits n h =
-    let one : 1 ≤ length (digits n) = rw (digits_length n) (places_some 19 n) in
+    let one : 1 ≤ length (digits n) = rw (digits_decimal n (omega arith)) (decimal_nonempty n (omega arith)) in
     decimal_contd (digits n)
     ∙ makes 0 0 (digits n) (record { some_digit = omega arith; few = omega (arith, few_digits n h); digits = all_digits 19 n; leads = leads n (omega arith) })
-    ∙ ap some (value_digits 19 n (omega arith))
+    ∙ ap Some (value_digits 19 n (omega arith))
 
 -- the other way: digits with no zero before them are those of the number that they make
-one_digit : (k n : ℕ) → n < 10 → digits_in k n ≡ (48 + n) ∷ []
-unfolding digits_in
-one_digit zero n h = let e : n % 10 ≡ n = omega arith in rw e
-one_digit (suc k) n h = rw (lt-ltb n 10 h)
-
-more_digits : (k n : ℕ) → 10 ≤ n → digits_in (suc k) n ≡ digits_in k (n / 10) ++ ((48 + n % 10) ∷ [])
-unfolding digits_in
-more_digits k n h = rw (le-ltb n 10 h)
-
 digits_value : (k v : ℕ) (g : List ℕ) → 1 ≤ v → all digit g ≡ true → digits_in (k + length g) (value_from v g) ≡ digits_in k v ++ g
 digits_value k v [] h d = rw add-zero (sym (append-nil (digits_in k v)))
 digits_value k v (b ∷ g) h d =
@@ -150,7 +122,7 @@ spelled (b ∷ c ∷ g) e =
     digits_value k (0 + (b - 48)) (c ∷ g) some_value dg in
     sym (rw fuel at whole ∙ rw (this_digit b k db))
 
-pub decimal_only : (f : List ℕ) (v : ℕ) → decimal f ≡ some v → (f ≡ digits v) × (v < 100000)
+pub decimal_only : (f : List ℕ) (v : ℕ) → decimal f ≡ Some v → (f ≡ digits v) × (v < 100000)
 decimal_only f v h =
     let m = makes_only 0 0 f v (sym (decimal_contd f) ∙ h) in
     let below : value_from 0 f < 100000 = five_digits (0 + length f) (value_from 0 f) (value_small 0 0 f (omega arith) m.0.digits) m.0.few in

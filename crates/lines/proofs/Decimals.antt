@@ -3,21 +3,21 @@
 use mathlib.Core.Path.{◌≡◌, refl, sym, ◌∙◌}
 use mathlib.Core.Bool.{Bool, true, false, cond, not}
 use mathlib.Core.List.{List, [], ◌∷◌}
-use mathlib.Core.Option.{Option, none, some}
+use Rattle.std.specs.Prelude.{Option, None, Some}
+use mathlib.Core.Logic.{◌⊎◌, ⊎_elim}
 use Prim.Native.Nat.{ℕ, zero, suc, ◌+◌, ◌-◌, ◌*◌, ◌^◌, ◌≤◌, ◌<◌}
 use native.Mathlib.Nat.{zero-add, add-zero, add-suc, suc-add, pow-suc, pow-le-pow_right}
 use native.Mathlib.Numerals.{add-one}
 use native.Mathlib.Omega.{arith}
-use lib.Dec.{leb, ltb, eqb}
+use lib.Dec.{leb, eqb}
 use lib.ListN.{length, drop, get_or}
-use borrow.Author.Tests.{leb-true, le-leb, lt-leb, lt-ltb, ltb-true, eqb-true, eqb-false, eq-eqb, ne_eqb}
+use borrow.Author.Tests.{leb-true, le-leb, eqb-true, eqb-false, eq-eqb, ne_eqb}
 use Rattle.laws.specs.Lists.{every, all}
 use Rattle.laws.proofs.Tests.{refuted, clash, and_left, and_right, and_both, every_each, each_every}
 use Rattle.lines.specs.Cut.{space, before}
 use Rattle.lines.specs.Decimal.{digit, no_leading_zero, value_from, is_decimal, decimal}
-use Rattle.lines.specs.Reading.{field_as, field_at, finished_as, zero_leads}
+use Rattle.lines.specs.Reading.{field_as, field_at, finished_as}
 use Rattle.lines.specs.declared.reading.Field.{Field}
-use Rattle.lines.specs.declared.reading.Field.TheVariants.{Decimal, Nothing}
 use Rattle.lines.proofs.Cutting.{found_here, found_later, found_nowhere}
 
 module _ (b : ℕ) (d : digit b ≡ true) where
@@ -40,7 +40,7 @@ abbrev pub tests : ℕ → ℕ → List ℕ → List Bool
 tests n v f = leb 1 (n + length f) ∷ leb (n + length f) 5 ∷ all digit f ∷ lead n v f ∷ []
 
 pub contd : ℕ → ℕ → List ℕ → Option ℕ
-contd n v f = cond (every (tests n v f)) (some (value_from v f)) none
+contd n v f = cond (every (tests n v f)) (Some (value_from v f)) None
 
 pub decimal_contd : (f : List ℕ) → decimal f ≡ contd 0 0 f
 unfolding contd decimal is_decimal
@@ -59,23 +59,23 @@ module _ (n v : ℕ) (f : List ℕ) where
       let t = every_each (tests n v f) e in
       record { some_digit = leb-true 1 (n + length f) t.0; few = leb-true (n + length f) 5 t.1.0; digits = t.1.1.0; leads = t.1.1.1.0 }
 
-  pub makes : EndsDecimal n v f → contd n v f ≡ some (value_from v f)
+  pub makes : EndsDecimal n v f → contd n v f ≡ Some (value_from v f)
   unfolding contd
   makes e = rw (each_every (tests n v f) (le-leb 1 (n + length f) e.some_digit, (le-leb (n + length f) 5 e.few, (e.digits, (e.leads, tt)))))
 
-  pub makes_only : (w : ℕ) → contd n v f ≡ some w → EndsDecimal n v f × (value_from v f ≡ w)
+  pub makes_only : (w : ℕ) → contd n v f ≡ Some w → EndsDecimal n v f × (value_from v f ≡ w)
   unfolding contd
   makes_only w h = by (every (tests n v f)) refl h
     where
-      by : (t : Bool) → every (tests n v f) ≡ t → cond t (some (value_from v f)) none ≡ some w → EndsDecimal n v f × (value_from v f ≡ w)
+      by : (t : Bool) → every (tests n v f) ≡ t → cond t (Some (value_from v f)) None ≡ Some w → EndsDecimal n v f × (value_from v f ≡ w)
       by true t h = (tests_say t, cc)
       by false t h = let z : ◌≡◌ {A = ℕ} 0 1 = cc in absurd (omega arith)
 
-  refuse : (EndsDecimal n v f → ⊥) → contd n v f ≡ none
+  refuse : (EndsDecimal n v f → ⊥) → contd n v f ≡ None
   unfolding contd
   refuse h = rw (refuted (every (tests n v f)) (λ e. h (tests_say e)))
 
-nothing_yet : (v : ℕ) → contd 0 v [] ≡ none
+nothing_yet : (v : ℕ) → contd 0 v [] ≡ None
 unfolding contd every
 nothing_yet v = refl
 
@@ -83,23 +83,23 @@ either_way : (t : Bool) → cond t true true ≡ true
 either_way true = refl
 either_way false = refl
 
-whole : (n v : ℕ) → 0 < n → n ≤ 5 → contd n v [] ≡ some v
+whole : (n v : ℕ) → 0 < n → n ≤ 5 → contd n v [] ≡ Some v
 whole zero v h l = absurd (omega arith)
 whole (suc n) v h l = makes (suc n) v [] (record { some_digit = omega arith; few = omega arith; digits = refl; leads = either_way (eqb v 0) })
 
-no_digit : (n v b : ℕ) (f : List ℕ) → digit b ≡ false → contd n v (b ∷ f) ≡ none
-no_digit n v b f h = refuse n v (b ∷ f) (λ e. clash (and_left (digit b) (all digit f) e.digits) h)
+no_digit : (n v b : ℕ) (f : List ℕ) → (48 ≤ b → b ≤ 57 → ⊥) → contd n v (b ∷ f) ≡ None
+no_digit n v b f h =
+    refuse n v (b ∷ f) (λ e. let d : digit b ≡ true = and_left (digit b) (all digit f) e.digits in h (digit_low b d) (digit_high b d))
 
-too_long : (n v b : ℕ) (f : List ℕ) → n ≡ 5 → contd n v (b ∷ f) ≡ none
+too_long : (n v b : ℕ) (f : List ℕ) → n ≡ 5 → contd n v (b ∷ f) ≡ None
 too_long n v b f h = refuse n v (b ∷ f) (λ e. omega (arith, e.few))
 
-after_zero : (n v b : ℕ) (f : List ℕ) → zero_leads v n ≡ true → contd n v (b ∷ f) ≡ none
-unfolding zero_leads
-after_zero zero v b f h = absurd (omega (arith, ltb-true 0 0 (and_left (ltb 0 0) (eqb v 0) h)))
-after_zero (suc n) v b f h = refuse (suc n) v (b ∷ f) (λ e. clash e.leads (rw (and_right (ltb 0 (suc n)) (eqb v 0) h) refl))
+-- digits were read, and they make nothing: the next would have a zero before it
+after_zero : (n v b : ℕ) (f : List ℕ) → 0 < n → v ≡ 0 → contd n v (b ∷ f) ≡ None
+after_zero zero v b f h e = absurd (omega arith)
+after_zero (suc n) v b f h e = refuse (suc n) v (b ∷ f) (λ w. clash w.leads (rw e refl))
 
-lead_next : (n v b : ℕ) (f : List ℕ) → (n ≡ 0 → v ≡ 0) → 48 ≤ b → zero_leads v n ≡ false → lead n v (b ∷ f) ≡ lead (suc n) (v * 10 + (b - 48)) f
-unfolding zero_leads
+lead_next : (n v b : ℕ) (f : List ℕ) → (n ≡ 0 → v ≡ 0) → 48 ≤ b → (0 < n → v ≡ 0 → ⊥) → lead n v (b ∷ f) ≡ lead (suc n) (v * 10 + (b - 48)) f
 lead_next zero v b [] z h q = sym (either_way (eqb (v * 10 + (b - 48)) 0))
 lead_next zero v b (x ∷ f) z h q = by (eqb b 48) refl
   where
@@ -109,15 +109,15 @@ lead_next zero v b (x ∷ f) z h q = by (eqb b 48) refl
 lead_next (suc n) v b f z h q = by (eqb v 0) refl
   where
     by : (t : Bool) → eqb v 0 ≡ t → cond t false true ≡ cond (eqb (v * 10 + (b - 48)) 0) (is_nil f) true
-    by true e = absurd (clash (and_both (lt-ltb 0 (suc n) (omega arith)) e) q)
+    by true e = absurd (q (omega arith) (eqb-true v 0 e))
     by false e = rw (ne_eqb (v * 10 + (b - 48)) 0 (λ x. eqb-false v 0 e (omega arith)))
 
-next : (n v b : ℕ) (f : List ℕ) → (n ≡ 0 → v ≡ 0) → digit b ≡ true → zero_leads v n ≡ false → contd n v (b ∷ f) ≡ contd (suc n) (v * 10 + (b - 48)) f
+next : (n v b : ℕ) (f : List ℕ) → (n ≡ 0 → v ≡ 0) → digit b ≡ true → (0 < n → v ≡ 0 → ⊥) → contd n v (b ∷ f) ≡ contd (suc n) (v * 10 + (b - 48)) f
 unfolding contd
 next n v b f z h q = rw (lead_next n v b f z (digit_low b h) q, h, add-suc, ← suc-add)
 
 -- the field as it stands at place i, after the digits from place `at` on made v
-pub go_on : List ℕ → ℕ → ℕ → ℕ → Field
+pub go_on : List ℕ → ℕ → ℕ → ℕ → Option Field
 go_on s at v i = field_as (contd (i - at) v (before space (drop i s))) (i + length (before space (drop i s)))
 
 -- n digits make less than 10 to the n
@@ -151,7 +151,7 @@ module _ {s : List ℕ} {at v i : ℕ} (r : Reached s at v i) where
   unfolding go_on finished_as
   stops e = r.decides ∙ by (eqb at i) refl
     where
-      by : (t : Bool) → eqb at i ≡ t → field_as (contd (i - at) v (before space (drop i s))) (i + length (before space (drop i s))) ≡ cond t Nothing (Decimal v i)
+      by : (t : Bool) → eqb at i ≡ t → field_as (contd (i - at) v (before space (drop i s))) (i + length (before space (drop i s))) ≡ cond t None (Some (record { value = v; end = i }))
       by true t = let z : i - at ≡ 0 = omega (arith, eqb-true at i t) in rw (e, z, nothing_yet v)
       by false t =
           let n : at < i = omega (arith, r.low, eqb-false at i t) in
@@ -164,52 +164,43 @@ module _ {s : List ℕ} {at v i : ℕ} (r : Reached s at v i) where
   ends_at_space here e = stops (found_here space s i here e)
 
 -- and the byte at i belongs to the field
-pub record AtByte (s : List ℕ) (at v i : ℕ) : Type 0 where
-  pub reached : Reached s at v i
-  pub here : i < length s
-  pub other : get_or s i 0 ≡ space → ⊥
-
-module _ {s : List ℕ} {at v i : ℕ} (b : AtByte s at v i) where
+module _ {s : List ℕ} {at v i : ℕ} (r : Reached s at v i) (here : i < length s) (other : get_or s i 0 ≡ space → ⊥) where
   abbrev rest : List ℕ
   rest = before space (drop (i + 1) s)
 
   the_rest : before space (drop i s) ≡ get_or s i 0 ∷ rest
-  the_rest = found_later space s i b.here b.other
+  the_rest = found_later space s i here other
 
   -- what no decimal has there
-  refused : contd (i - at) v (get_or s i 0 ∷ rest) ≡ none → field_at s at ≡ Nothing
+  refused : contd (i - at) v (get_or s i 0 ∷ rest) ≡ None → field_at s at ≡ None
   unfolding go_on
-  refused h = b.reached.decides ∙ rw (the_rest, h)
+  refused h = r.decides ∙ rw (the_rest, h)
 
-  pub refused_other : digit (get_or s i 0) ≡ false → field_at s at ≡ Nothing
+  pub refused_other : (48 ≤ get_or s i 0 → get_or s i 0 ≤ 57 → ⊥) → field_at s at ≡ None
   refused_other h = refused (no_digit (i - at) v (get_or s i 0) rest h)
 
-  pub refused_sixth : i - at ≡ 5 → field_at s at ≡ Nothing
+  pub refused_sixth : i - at ≡ 5 → field_at s at ≡ None
   refused_sixth h = refused (too_long (i - at) v (get_or s i 0) rest h)
 
-  pub refused_zero : zero_leads v (i - at) ≡ true → field_at s at ≡ Nothing
-  refused_zero h = refused (after_zero (i - at) v (get_or s i 0) rest h)
+  pub refused_zero : at < i → v ≡ 0 → field_at s at ≡ None
+  refused_zero h e = refused (after_zero (i - at) v (get_or s i 0) rest (omega arith) e)
 
   -- one digit further
-  pub reached_next : 48 ≤ get_or s i 0 → get_or s i 0 ≤ 57 → (i - at ≡ 5 → ⊥) → zero_leads v (i - at) ≡ false → Reached s at (v * 10 + (get_or s i 0 - 48)) (i + 1)
+  pub reached_next : 48 ≤ get_or s i 0 → get_or s i 0 ≤ 57 → (i - at ≡ 5 → ⊥) → ((at < i) × (v ≡ 0 → ⊥)) ⊎ (i ≤ at) → {d : ℕ} → d ≡ get_or s i 0 - 48 → Reached s at (v * 10 + d) (i + 1)
   unfolding go_on
-  reached_next a c n z =
-      let r = b.reached in
-      let more : (i + 1) - at ≡ suc (i - at) = omega (arith, r.low) in
+  reached_next a c n z is =
+      rw is
+      (let more : (i + 1) - at ≡ suc (i - at) = omega (arith, r.low) in
       let is_digit : digit (get_or s i 0) ≡ true = and_both (le-leb 48 (get_or s i 0) a) (le-leb (get_or s i 0) 57 c) in
       record {
         low = omega (arith, r.low);
-        high = omega (arith, b.here);
+        high = omega (arith, here);
         few = omega (arith, r.low, r.few, n);
         none_made = λ e. absurd (omega (arith, r.low));
         small = rw more (grows (i - at) v (get_or s i 0 - 48) r.small (omega arith));
         decides =
             r.decides
-            ∙ rw (the_rest, next (i - at) v (get_or s i 0) rest (λ x. r.none_made (omega (arith, r.low))) is_digit z, more, add-one, add-suc, suc-add);
-      }
+            ∙ rw (the_rest, next (i - at) v (get_or s i 0) rest (λ x. r.none_made (omega (arith, r.low))) is_digit (λ l e. ⊎_elim (λ p. p.1 e) (λ q. omega arith) z), more, add-one, add-suc, suc-add);
+      })
 
-pub under_digits : (b : ℕ) → b < 48 → digit b ≡ false
-under_digits b h = rw (lt-leb 48 b h)
-
-pub over_digits : (b : ℕ) → 57 < b → digit b ≡ false
-over_digits b h = rw (le-leb 48 b (omega arith), lt-leb b 57 h)
+pub ruleset reading = (reached_first, ends_there, ends_at_space, refused_other, refused_sixth, refused_zero, reached_next)

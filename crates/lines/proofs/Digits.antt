@@ -1,63 +1,47 @@
--- A number's digits: counted, filled from the end, and put into a buffer.
+-- A number's digits, and what is put into a buffer one after the other.
 use mathlib.Core.Path.{◌≡◌, refl, sym, ap, ◌∙◌}
 use mathlib.Core.Bool.{Bool, true, false, cond}
 use mathlib.Core.List.{List, [], ◌∷◌, ◌++◌, append_assoc}
-use mathlib.Core.Logic.{⊎_elim}
 use Prim.Native.Nat.{ℕ, zero, suc, ◌+◌, ◌-◌, ◌/◌, ◌%◌, ◌^◌, ◌≤◌, ◌<◌}
-use native.Mathlib.Nat.{add-zero, add-suc, suc-add, pow-suc}
+use native.Mathlib.Nat.{add-zero, add-suc, suc-add}
 use native.Mathlib.Omega.{arith}
 use lib.Dec.{ltb}
-use lib.ListN.{length, take, drop, set, length-append, length-set}
-use lib.Seq.{sets, length-sets, set_comm, sets-eq, take_at, length-take-le}
-use borrow.Author.Tests.{lt-ltb, le-ltb, ltb-true}
-use Rattle.laws.proofs.Tests.{le_or_lt, either}
+use lib.ListN.{length, take, drop, set, length-append}
+use lib.Seq.{sets, length-sets, sets-eq, take_at, length-take-le}
+use borrow.Author.Tests.{lt-ltb, le-ltb}
+use borrow.Rule.Slice.PartMut.{put_mid, Post-is}
+use Rattle.std.specs.Prelude.{Option, None, Some}
+use Rattle.std.specs.Fmt.{decimal}
+use Rattle.std.proofs.lemmas.Fmt.{decimal_from_appends, length-decimal-le}
+use Rattle.head.specs.declared.Grant.{Grant}
 use Rattle.head.specs.declared.Shown.{Shown}
 use Rattle.lines.specs.Decimal.{digits_in, digits}
-use Rattle.lines.specs.Print.{sums, dashes, answer_line, shown_line}
-use Rattle.lines.specs.Places.{last_digits, places_in, places, Wrote}
+use Rattle.lines.specs.Print.{answer_line, grant_shown, shown_line}
+use Rattle.lines.specs.Places.{Wrote}
 
-pub places_one : (k n : ℕ) → n < 10 → places_in k n ≡ 1
-unfolding places_in
-places_one zero n h = refl
-places_one (suc k) n h = rw (lt-ltb n 10 h)
+pub one_digit : (k n : ℕ) → n < 10 → digits_in k n ≡ (48 + n) ∷ []
+unfolding digits_in
+one_digit zero n h = let e : n % 10 ≡ n = omega arith in rw e
+one_digit (suc k) n h = rw (lt-ltb n 10 h)
 
-pub places_more : (k n : ℕ) → 10 ≤ n → places_in (suc k) n ≡ suc (places_in k (n / 10))
-unfolding places_in
-places_more k n h = rw (le-ltb n 10 h)
+pub more_digits : (k n : ℕ) → 10 ≤ n → digits_in (suc k) n ≡ digits_in k (n / 10) ++ ((48 + n % 10) ∷ [])
+unfolding digits_in
+more_digits k n h = rw (le-ltb n 10 h)
 
-pub places_most : (k n : ℕ) → places_in k n ≤ suc k
-unfolding places_in
-places_most zero n = omega arith
-places_most (suc k) n = by (ltb n 10) (places_most k (n / 10))
-  where
-    by : (t : Bool) → places_in k (n / 10) ≤ suc k → cond t 1 (suc (places_in k (n / 10))) ≤ suc (suc k)
-    by true h = omega arith
-    by false h = omega arith
+-- at most so many of the last digits
+abbrev counted : ℕ → ℕ → List ℕ
+counted zero n = []
+counted (suc k) n = digits_in k n
 
--- so many last digits are all of them
-pub digits_last : (k n : ℕ) → digits_in k n ≡ last_digits (places_in k n) n
-unfolding digits_in places_in last_digits
-digits_last zero n = refl
-digits_last (suc k) n = by (ltb n 10) refl (digits_last k (n / 10))
-  where
-    by : (t : Bool) → ltb n 10 ≡ t → digits_in k (n / 10) ≡ last_digits (places_in k (n / 10)) (n / 10)
-        → cond t ((48 + n) ∷ []) (digits_in k (n / 10) ++ ((48 + n % 10) ∷ [])) ≡ last_digits (cond t 1 (suc (places_in k (n / 10)))) n
-    by true e ih = let h : n % 10 ≡ n = omega (arith, ltb-true n 10 e) in rw h
-    by false e ih = rw ih
+counted_more : (k n : ℕ) → 10 ≤ n → counted (suc k) n ≡ counted k (n / 10) ++ ((48 + n % 10) ∷ [])
+unfolding digits_in
+counted_more zero n h = refl
+counted_more (suc k) n h = more_digits k n h
 
-pub last_length : (k n : ℕ) → length (last_digits k n) ≡ k
-unfolding last_digits
-last_length zero n = refl
-last_length (suc k) n = let h = last_length k (n / 10) in simp length-append (omega arith)
-
-pub digits_length : (n : ℕ) → length (digits n) ≡ places n
-digits_length n = rw (digits_last 19 n, last_length (places n) n)
-
--- the last byte first, then those before it
-pub sets_last : (l xs : List ℕ) (at d : ℕ) → sets (set l (at + length xs) d) at xs ≡ sets l at (xs ++ (d ∷ []))
-sets_last l [] at d = rw add-zero
-sets_last l (x ∷ xs) at d =
-    rw (← sets_last (set l at x) xs (suc at) d, add-suc, suc-add, set_comm l (suc (at + length xs)) at d x (λ e. omega arith))
+-- the digits are what the library prints
+pub digits_decimal : (n : ℕ) → n < 2 ^ 64 → digits n ≡ decimal n
+digits_decimal n h =
+    decimal_from_appends counted (record { one = one_digit; more = counted_more }) 20 n h (length-decimal-le 20 n (omega arith) (omega arith) h)
 
 pub sets_append : (l xs ys : List ℕ) (at : ℕ) → sets l at (xs ++ ys) ≡ sets (sets l at xs) (at + length xs) ys
 sets_append l [] ys at = rw add-zero
@@ -75,144 +59,78 @@ wrote_both {l} {m} {n} {at} {p} {q} {xs} {ys} a b =
 pub wrote_length : {l m : List ℕ} {at p : ℕ} {xs : List ℕ} → Wrote l at xs m p → length m ≡ length l
 wrote_length {l} {m} {at} {p} {xs} a = ap length a.stand ∙ length-sets l at xs
 
--- what holds of the loop that counts: k places are counted, and those of `rest` are the others
-pub record Counting (n k rest : ℕ) : Type 0 where
-  pub some_counted : 1 ≤ k
-  pub few : k ≤ 20
-  pub small : rest < 10 ^ (21 - k)
-  pub others : places n ≡ (k - 1) + places_in (20 - k) rest
+-- a part of the buffer overwritten, and one byte
+pub wrote_part : (l : List ℕ) (at : ℕ) (xs : List ℕ) {ys : List ℕ} → ys ≡ xs → at + length xs ≤ length l
+    → Wrote l at xs (put_mid at (at + length xs - at) l ys) (at + length xs)
+wrote_part l at xs e h =
+    record { place = refl; stand = rw (e, Post-is at (at + length xs) l (omega arith), sets-eq xs l at h, append_assoc) }
 
-pub counting_first : (n : ℕ) → n < 2 ^ 64 → Counting n 1 n
-counting_first n h = record { some_counted = omega arith; few = omega arith; small = omega arith; others = omega arith }
+pub wrote_byte : (l : List ℕ) (at b : ℕ) → Wrote l at (b ∷ []) (set l at b) (at + 1)
+wrote_byte l at b = record { place = refl; stand = refl }
 
-pub counting_next : {n k rest : ℕ} → Counting n k rest → 10 ≤ rest → Counting n (k + 1) (rest / 10)
-counting_next {n} {k} {rest} c h =
-    record {
-      some_counted = omega arith;
-      few = more;
-      small = omega (arith, rw (powers, pow-suc) at c.small);
-      others = omega (arith, c.others, rw fuel at c.others, places_more (20 - (k + 1)) rest h);
-    }
+digits_most_in : (k n : ℕ) → length (digits_in k n) ≤ suc k
+unfolding digits_in
+digits_most_in zero n = omega arith
+digits_most_in (suc k) n = by (ltb n 10) (digits_most_in k (n / 10))
   where
-    more : k + 1 ≤ 20
-    more = ⊎_elim (λ (l : k + 1 ≤ 20). l) (λ (g : 20 < k + 1). let one : 21 - k ≡ 1 = omega (arith, c.few) in absurd (omega (arith, rw one at c.small))) (le_or_lt (k + 1) 20)
+    by : (t : Bool) → length (digits_in k (n / 10)) ≤ suc k → length (cond t ((48 + n) ∷ []) (digits_in k (n / 10) ++ ((48 + n % 10) ∷ []))) ≤ suc (suc k)
+    by true h = omega arith
+    by false h = simp length-append (omega arith)
 
-    powers : 21 - k ≡ suc (21 - (k + 1))
-    powers = omega (arith, more)
-
-    fuel : 20 - k ≡ suc (20 - (k + 1))
-    fuel = omega (arith, more)
-
-pub counting_last : {n k rest : ℕ} → Counting n k rest → rest < 10 → k ≡ places n
-counting_last {n} {k} {rest} c h = omega (arith, c.others, c.some_counted, places_one (20 - k) rest h)
-
--- what holds of the loop that fills, from the end: what is left to fill, put over what stands there, makes the whole
-pub record Filling (out₀ : List ℕ) (at end n : ℕ) (out : List ℕ) (i rest : ℕ) : Type 0 where
-  pub low : at ≤ i
-  pub high : i ≤ end
-  pub same : length out ≡ length out₀
-  pub makes : sets out at (last_digits (i - at) rest) ≡ sets out₀ at (last_digits (end - at) n)
-
-pub filling_first : (out : List ℕ) (at end n : ℕ) → at ≤ end → Filling out at end n out end n
-filling_first out at end n h = record { low = h; high = omega arith; same = refl; makes = refl }
-
-module _ {out₀ : List ℕ} {at end n : ℕ} {out : List ℕ} {i rest : ℕ} (f : Filling out₀ at end n out i rest) where
-  pub filling_next : at < i → Filling out₀ at end n (set out (i - 1) (48 + rest % 10)) (i - 1) (rest / 10)
-  unfolding last_digits
-  filling_next h =
-      let e : i - at ≡ suc ((i - 1) - at) = omega arith in
-      let others : List ℕ = last_digits ((i - 1) - at) (rest / 10) in
-      let p : i - 1 ≡ at + length others = omega (arith, last_length ((i - 1) - at) (rest / 10)) in
-      let put : sets (set out (i - 1) (48 + rest % 10)) at others ≡ sets out at (last_digits (i - at) rest) =
-      rw e (ap (λ (x : ℕ). sets (set out x (48 + rest % 10)) at others) p ∙ sets_last out others at (48 + rest % 10)) in
-      record { low = omega arith; high = omega (arith, f.high); same = simp length-set f.same; makes = put ∙ f.makes }
-
-  pub filling_last : i ≤ at → out ≡ sets out₀ at (last_digits (end - at) n)
-  unfolding last_digits
-  filling_last h = let e : i - at ≡ 0 = omega arith in rw e at f.makes
-
-pub four_bytes : (l : List ℕ) (at a b c d : ℕ) → Wrote l at (a ∷ b ∷ c ∷ d ∷ []) (set (set (set (set l at a) (at + 1) b) (at + 2) c) (at + 3) d) (at + 4)
-four_bytes l at a b c d =
-    let one : at + 1 ≡ suc at = omega arith in
-    let two : at + 2 ≡ suc (suc at) = omega arith in
-    let three : at + 3 ≡ suc (suc (suc at)) = omega arith in
-    record { place = refl; stand = rw (one, two, three) }
-
--- all the digits, and the byte after them
-pub digits_then : (l : List ℕ) (at n then : ℕ) → Wrote l at (digits n ++ (then ∷ [])) (set (sets l at (last_digits (places n) n)) (at + places n) then) (at + places n + 1)
-digits_then l at n then =
-    record {
-      place = omega (arith, length-append (digits n) (then ∷ []), digits_length n);
-      stand = rw (sets_append l (digits n) (then ∷ []) at, digits_length n, digits_last 19 n);
-    }
-
-pub digits_most : (n : ℕ) → length (digits n) ≤ 20
-digits_most n = omega (arith, digits_length n, places_most 19 n)
-
-pub put_whole : (l : List ℕ) (at n then : ℕ) {p : ℕ} → p ≡ places n → {m : List ℕ} → m ≡ sets l at (last_digits (at + p - at) n)
-    → Wrote l at (digits n ++ (then ∷ [])) (set m (at + p) then) (at + p + 1)
-put_whole l at n then e f =
-    let q : at + places n - at ≡ places n = omega arith in
-    rw (f, e, q) (digits_then l at n then)
-
--- what is put after what was put has as much less room
-pub room_left : {l m : List ℕ} {at p : ℕ} {xs : List ℕ} (most k : ℕ) → Wrote l at xs m p → length xs ≤ most → at + (most + k) ≤ length l → p + k ≤ length m
-room_left most k w h r = omega (arith, w.place, wrote_length w)
-
+-- a number and the byte after it
 abbrev pub ended : ℕ → ℕ → List ℕ
 ended n then = digits n ++ (then ∷ [])
 
 pub ended_most : (n then : ℕ) → length (ended n then) ≤ 21
-ended_most n then = omega (arith, length-append (digits n) (then ∷ []), digits_most n)
+ended_most n then = omega (arith, length-append (digits n) (then ∷ []), digits_most_in 19 n)
 
-pub both_most : (xs ys : List ℕ) (a b : ℕ) → length xs ≤ a → length ys ≤ b → length (xs ++ ys) ≤ a + b
-both_most xs ys a b h k = omega (arith, length-append xs ys)
+pub both_most : (xs ys : List ℕ) {a b : ℕ} → length xs ≤ a → length ys ≤ b → length (xs ++ ys) ≤ a + b
+both_most xs ys h k = omega (arith, length-append xs ys)
 
-pub sums_most : (sum total : ℕ) → length (sums sum total) ≤ 42
-unfolding sums
-sums_most sum total = both_most (ended sum 32) (ended total 10) 21 21 (ended_most sum 32) (ended_most total 10)
+abbrev pub dashes : List ℕ
+dashes = 45 ∷ 32 ∷ 45 ∷ 32 ∷ []
 
--- the line in its parts, as the writer puts them: two numbers, then the queue and the slice of a grant or dashes, then the sums
-module _ (line : ℕ) (a : Shown) where
-  abbrev pub front : List ℕ
-  front = ended line 32 ++ ended a.answer 32
+pub two_numbers : (queue slice : ℕ) → ended queue 32 ++ ended slice 32 ≡ grant_shown (Some (record { queue = queue; slice = slice }))
+unfolding grant_shown
+two_numbers queue slice = simp append_assoc
 
-  abbrev pub with_queue : List ℕ
-  with_queue = front ++ ended a.queue 32
+pub grant_most : (grant : Option Grant) → length (grant_shown grant) ≤ 42
+unfolding grant_shown
+grant_most None = omega arith
+grant_most (Some grant) = rw (← two_numbers grant.queue grant.slice) (both_most _ _ (ended_most grant.queue 32) (ended_most grant.slice 32))
 
-  abbrev pub with_slice : List ℕ
-  with_slice = with_queue ++ ended a.slice 32
+-- the line in its parts, as the writer puts them: two numbers, a grant or dashes, and two numbers more
+module _ (line : ℕ) (a : Shown) (sum total : ℕ) where
+  pub shown_parts : (((ended line 32 ++ ended a.answer 32) ++ grant_shown a.grant) ++ ended sum 32) ++ ended total 10 ≡ shown_line line a sum total
+  unfolding grant_shown shown_line answer_line
+  shown_parts = simp append_assoc
 
-  abbrev pub with_dashes : List ℕ
-  with_dashes = front ++ dashes
+  -- six numbers of twenty digits, and a byte after each
+  pub shown_most : length (shown_line line a sum total) ≤ 126
+  shown_most =
+      rw (← shown_parts)
+      (both_most _ _ (both_most _ _ (both_most _ _ (both_most _ _ (ended_most line 32) (ended_most a.answer 32)) (grant_most a.grant)) (ended_most sum 32)) (ended_most total 10))
 
-  pub front_most : length front ≤ 42
-  front_most = both_most (ended line 32) (ended a.answer 32) 21 21 (ended_most line 32) (ended_most a.answer 32)
+-- what the writer puts one after the other
+pub wrote_number : {l m o : List ℕ} {at p q : ℕ} {bytes : List ℕ} {n then : ℕ} → Wrote l at bytes m p → Wrote m p (then ∷ []) o q → bytes ≡ decimal n → n < 2 ^ 64
+    → Wrote l at (ended n then) o q
+wrote_number {n = n} a b e h = wrote_both (rw (e, ← digits_decimal n h) at a) b
 
-  pub queue_most : length with_queue ≤ 63
-  queue_most = both_most front (ended a.queue 32) 42 21 front_most (ended_most a.queue 32)
+pub wrote_grant : {l m o : List ℕ} {at p q : ℕ} {g : Grant} → Wrote l at (ended g.queue 32) m p → Wrote m p (ended g.slice 32) o q → {grant : Option Grant} → grant ≡ Some g
+    → Wrote l at (grant_shown grant) o q
+wrote_grant {g = g} a b is = rw (is, ← two_numbers g.queue g.slice) (wrote_both a b)
 
-  pub slice_high : length with_slice ≤ 84
-  slice_high = both_most with_queue (ended a.slice 32) 63 21 queue_most (ended_most a.slice 32)
+pub wrote_dashes : {l m : List ℕ} {at p : ℕ} → Wrote l at dashes m p → {grant : Option Grant} → grant ≡ None → Wrote l at (grant_shown grant) m p
+unfolding grant_shown
+wrote_dashes a is = rw is a
 
-  pub dashes_most : length with_dashes ≤ 46
-  dashes_most = both_most front dashes 42 4 front_most (omega arith)
+pub wrote_line : {l₀ l₁ l₂ l₃ l₄ l₅ : List ℕ} {p₀ p₁ p₂ p₃ p₄ p₅ : ℕ} (line : ℕ) (a : Shown) (sum total : ℕ) → Wrote l₀ p₀ (ended line 32) l₁ p₁ → Wrote l₁ p₁ (ended a.answer 32) l₂ p₂
+    → Wrote l₂ p₂ (grant_shown a.grant) l₃ p₃ → Wrote l₃ p₃ (ended sum 32) l₄ p₄ → Wrote l₄ p₄ (ended total 10) l₅ p₅ → {l : List ℕ} → l₅ ≡ l
+    → Wrote l₀ p₀ (shown_line line a sum total) l p₅
+wrote_line line a sum total u v w x y e =
+    rw (← e, ← shown_parts line a sum total) (wrote_both (wrote_both (wrote_both (wrote_both u v) w) x) y)
 
-  module _ (sum total : ℕ) where
-    pub shown_granted : a.granted ≡ true → with_slice ++ sums sum total ≡ shown_line line a sum total
-    unfolding shown_line answer_line sums
-    shown_granted g = rw g (simp append_assoc)
-
-    pub shown_other : a.granted ≡ false → with_dashes ++ sums sum total ≡ shown_line line a sum total
-    unfolding shown_line answer_line sums
-    shown_other g = rw g (simp append_assoc)
-
-    -- six numbers of twenty digits, and a byte after each
-    pub shown_most : length (shown_line line a sum total) ≤ 126
-    shown_most =
-        ⊎_elim (λ (g : a.granted ≡ true). rw (← shown_granted g) (both_most with_slice (sums sum total) 84 42 slice_high (sums_most sum total)))
-        (λ (g : a.granted ≡ false). rw (← shown_other g) (omega (arith, both_most with_dashes (sums sum total) 46 42 dashes_most (sums_most sum total))))
-        (either a.granted)
+pub ruleset writing = (length-sets, ended_most, grant_most, wrote_part)
 
 -- what stands in the buffer up to the next place
 pub wrote_take : {l m : List ℕ} {at p : ℕ} {xs : List ℕ} → Wrote l at xs m p → p ≤ length l → take p m ≡ take at l ++ xs

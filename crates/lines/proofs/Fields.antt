@@ -2,32 +2,32 @@
 use mathlib.Core.Path.{◌≡◌, refl, sym, ap, ◌∙◌}
 use mathlib.Core.Bool.{Bool, true, false}
 use mathlib.Core.List.{List, [], ◌∷◌, append-nil}
-use mathlib.Core.Option.{Option, none, some}
+use Rattle.std.specs.Prelude.{Option, None, Some}
 use Prim.Native.Nat.{ℕ, suc, ◌+◌, ◌≤◌, ◌<◌}
 use native.Mathlib.Omega.{arith}
 use lib.Dec.{eqb}
 use lib.ListN.{length, drop, get_or, length-drop}
 use lib.Seq.{drop-drop}
 use borrow.Author.Tests.{le-leb, lt-leb, eqb-true, eq-eqb, ne_eqb}
-use Rattle.head.specs.declared.Line.TheVariants.{Broken}
+use Rattle.std.proofs.lemmas.Option.{none-some, same_Some}
+use Rattle.lines.specs.declared.reading.Field.{Field}
 use Rattle.lines.specs.Cut.{space, part, cut_at, before, fields_of}
 use Rattle.lines.specs.Decimal.{decimal}
 use Rattle.lines.specs.Grammar.{event_of, both, numbers, event_if, event_named, event_in, read_line}
 use Rattle.lines.specs.Reading.{field_as, field_at}
-use Rattle.lines.specs.declared.reading.Field.TheVariants.{Decimal, Nothing}
 use Rattle.lines.proofs.Cutting.{before_length, cut_more, cut_last, cut_first}
 
 -- no line begins with a space
-blank_none : (ns : Option (List ℕ)) → event_if space ns ≡ Broken
+blank_none : (ns : Option (List ℕ)) → event_if space ns ≡ None
 unfolding event_if event_of
-blank_none none = refl
-blank_none (some []) = refl
-blank_none (some (a ∷ [])) = refl
-blank_none (some (a ∷ b ∷ [])) = refl
-blank_none (some (a ∷ b ∷ c ∷ [])) = refl
-blank_none (some (a ∷ b ∷ c ∷ d ∷ ns)) = refl
+blank_none None = refl
+blank_none (Some []) = refl
+blank_none (Some (a ∷ [])) = refl
+blank_none (Some (a ∷ b ∷ [])) = refl
+blank_none (Some (a ∷ b ∷ c ∷ [])) = refl
+blank_none (Some (a ∷ b ∷ c ∷ d ∷ ns)) = refl
 
-pub overlong : (s : List ℕ) → 40 < length s → read_line s ≡ Broken
+pub overlong : (s : List ℕ) → 40 < length s → read_line s ≡ None
 unfolding read_line
 overlong s h = rw (lt-leb (length s) 40 h)
 
@@ -35,7 +35,7 @@ within : (s : List ℕ) → length s ≤ 40 → read_line s ≡ event_in (fields
 unfolding read_line
 within s h = rw (le-leb (length s) 40 h)
 
-pub empty_line : (s : List ℕ) → length s ≡ 0 → read_line s ≡ Broken
+pub empty_line : (s : List ℕ) → length s ≡ 0 → read_line s ≡ None
 unfolding read_line event_in event_named cut_at
 empty_line [] h = refl
 empty_line (b ∷ s) h = absurd (omega arith)
@@ -46,17 +46,17 @@ one_byte [] h = absurd (omega arith)
 one_byte (b ∷ []) h = within (b ∷ []) (omega arith) ∙ by (eqb b space) refl
   where
     by : (t : Bool) → eqb b space ≡ t → event_in (part t b ([] ∷ [])) ≡ event_of b []
-    by true e = rw (eqb-true b space e) (sym (blank_none (some [])))
+    by true e = rw (eqb-true b space e) (sym (blank_none (Some [])))
     by false e = refl
 one_byte (b ∷ x ∷ s) h = absurd (omega arith)
 
-pub long_name : (s : List ℕ) → length s ≤ 40 → 2 ≤ length s → (get_or s 1 0 ≡ space → ⊥) → read_line s ≡ Broken
+pub long_name : (s : List ℕ) → length s ≤ 40 → 2 ≤ length s → (get_or s 1 0 ≡ space → ⊥) → read_line s ≡ None
 unfolding event_in event_named cut_at
 long_name [] k h n = absurd (omega arith)
 long_name (b ∷ []) k h n = absurd (omega arith)
 long_name (b ∷ x ∷ s) k h n = within (b ∷ x ∷ s) k ∙ rw (ne_eqb x space n) (by (eqb b space) (cut_at space ([] ∷ []) s))
   where
-    by : (t : Bool) (ps : List (List ℕ)) → event_in (part t b (part false x ps)) ≡ Broken
+    by : (t : Bool) (ps : List (List ℕ)) → event_in (part t b (part false x ps)) ≡ None
     by true [] = refl
     by true (p ∷ ps) = refl
     by false [] = refl
@@ -86,100 +86,102 @@ module _ (s : List ℕ) (at : ℕ) where
   abbrev here : List ℕ
   here = before space (drop at s)
 
-  found : {v e : ℕ} → field_at s at ≡ Decimal v e → (decimal here ≡ some v) × (at + length here ≡ e)
+  found : {f : Field} → field_at s at ≡ Some f → (decimal here ≡ Some f.value) × (at + length here ≡ f.end)
   unfolding field_at
-  found {v} {e} h = by (decimal here) h
+  found {f} h = by (decimal here) h
     where
-      by : (o : Option ℕ) → field_as o (at + length here) ≡ Decimal v e → (o ≡ some v) × (at + length here ≡ e)
-      by none h = let z : ◌≡◌ {A = ℕ} 0 1 = cc in absurd (omega arith)
-      by (some w) h = (cc, cc)
+      by : (o : Option ℕ) → field_as o (at + length here) ≡ Some f → (o ≡ Some f.value) × (at + length here ≡ f.end)
+      by None h = absurd (none-some f h)
+      by (Some w) h =
+          let same : record { value = w; end = at + length here } ≡ f = same_Some (record { value = w; end = at + length here }) f h in
+          (ap (λ (x : Field). Some x.value) same, ap (λ (x : Field). x.end) same)
 
-  missing : field_at s at ≡ Nothing → decimal here ≡ none
+  missing : field_at s at ≡ None → decimal here ≡ None
   unfolding field_at
   missing h = by (decimal here) h
     where
-      by : (o : Option ℕ) → field_as o (at + length here) ≡ Nothing → o ≡ none
-      by none h = refl
-      by (some w) h = let z : ◌≡◌ {A = ℕ} 0 1 = cc in absurd (omega arith)
+      by : (o : Option ℕ) → field_as o (at + length here) ≡ None → o ≡ None
+      by None h = refl
+      by (Some w) h = absurd (none-some (record { value = w; end = at + length here }) (sym h))
 
-  pub ends_within : {v e : ℕ} → at ≤ length s → field_at s at ≡ Decimal v e → e ≤ length s
-  ends_within h f = omega (arith, (found f).1, before_length space (drop at s), length-drop at s)
+  module _ (h : at ≤ length s) {f : Field} (is : field_at s at ≡ Some f) where
+    pub ends_within : f.end ≤ length s
+    ends_within = omega (arith, (found is).1, before_length space (drop at s), length-drop at s)
 
-  pub field_none : field_at s at ≡ Nothing → numbers (fields_of (drop at s)) ≡ none
+    pub field_last : f.end ≡ length s → numbers (fields_of (drop at s)) ≡ Some (f.value ∷ [])
+    unfolding numbers
+    field_last l =
+        let whole : length here ≡ length (drop at s) = omega (arith, (found is).1, length-drop at s) in
+        rw (cut_last space (drop at s) whole, (found is).0)
+
+    pub field_more : f.end < length s → numbers (fields_of (drop at s)) ≡ both (Some f.value) (numbers (fields_of (drop (f.end + 1) s)))
+    unfolding numbers
+    field_more l =
+        let inner : length here < length (drop at s) = omega (arith, (found is).1, length-drop at s) in
+        let next : at + suc (length here) ≡ f.end + 1 = omega (arith, (found is).1) in
+        let cut : fields_of (drop at s) ≡ here ∷ fields_of (drop (f.end + 1) s) =
+        sym (ap fields_of (append-nil (drop at s))) ∙ cut_more space ([] ∷ []) (drop at s) [] inner
+        ∙ rw (append-nil, drop-drop, next) in
+        rw (cut, (found is).0)
+
+  pub field_none : field_at s at ≡ None → numbers (fields_of (drop at s)) ≡ None
   unfolding numbers
   field_none f = let p = cut_first space (drop at s) in rw (p.1, missing f)
 
-  pub field_last : {v e : ℕ} → at ≤ length s → field_at s at ≡ Decimal v e → e ≡ length s → numbers (fields_of (drop at s)) ≡ some (v ∷ [])
-  unfolding numbers
-  field_last h f l =
-      let whole : length here ≡ length (drop at s) = omega (arith, (found f).1, length-drop at s) in
-      rw (cut_last space (drop at s) whole, (found f).0)
-
-  pub field_more : {v e : ℕ} → at ≤ length s → field_at s at ≡ Decimal v e → e < length s
-      → numbers (fields_of (drop at s)) ≡ both (some v) (numbers (fields_of (drop (e + 1) s)))
-  unfolding numbers
-  field_more {v} {e} h f l =
-      let inner : length here < length (drop at s) = omega (arith, (found f).1, length-drop at s) in
-      let next : at + suc (length here) ≡ e + 1 = omega (arith, (found f).1) in
-      let cut : fields_of (drop at s) ≡ here ∷ fields_of (drop (e + 1) s) =
-      sym (ap fields_of (append-nil (drop at s))) ∙ cut_more space ([] ∷ []) (drop at s) [] inner
-      ∙ rw (append-nil, drop-drop, next) in
-      rw (cut, (found f).0)
-
 -- three numbers and more to come
-pub too_many : (k a b c : ℕ) (l : List ℕ) → event_if k (both (some a) (both (some b) (both (some c) (numbers (fields_of l))))) ≡ Broken
+pub too_many : (k a b c : ℕ) (l : List ℕ) → event_if k (both (Some a) (both (Some b) (both (Some c) (numbers (fields_of l))))) ≡ None
 unfolding numbers event_if event_of
 too_many k a b c l = let p = cut_first space l in rw p.1 (by (decimal (before space l)) (numbers p.0))
   where
-    by : (o : Option ℕ) (ns : Option (List ℕ)) → event_if k (both (some a) (both (some b) (both (some c) (both o ns)))) ≡ Broken
-    by none ns = refl
-    by (some d) none = refl
-    by (some d) (some ns) = refl
+    by : (o : Option ℕ) (ns : Option (List ℕ)) → event_if k (both (Some a) (both (Some b) (both (Some c) (both o ns)))) ≡ None
+    by None ns = refl
+    by (Some d) None = refl
+    by (Some d) (Some ns) = refl
 
 -- the line by the fields found in it: a number with more to come after it, and a second
-pub record OneFound (s : List ℕ) (a i : ℕ) : Type 0 where
+pub record OneFound (s : List ℕ) (a : Field) : Type 0 where
   pub lettered : Lettered s
-  pub first : field_at s 2 ≡ Decimal a i
-  pub more : i < length s
+  pub first : field_at s 2 ≡ Some a
+  pub more : a.end < length s
 
-pub record TwoFound (s : List ℕ) (a i b j : ℕ) : Type 0 where
-  pub one : OneFound s a i
-  pub second : field_at s (i + 1) ≡ Decimal b j
-  pub more : j < length s
+pub record TwoFound (s : List ℕ) (a b : Field) : Type 0 where
+  pub one : OneFound s a
+  pub second : field_at s (a.end + 1) ≡ Some b
+  pub more : b.end < length s
 
 module _ {s : List ℕ} (l : Lettered s) where
-  pub no_first : field_at s 2 ≡ Nothing → read_line s ≡ Broken
+  pub no_first : field_at s 2 ≡ None → read_line s ≡ None
   unfolding event_if
   no_first f = rw (opened l, field_none s 2 f)
 
-  pub one_number : {a i : ℕ} → field_at s 2 ≡ Decimal a i → i ≡ length s → read_line s ≡ event_of (get_or s 0 0) (a ∷ [])
+  pub one_number : {a : Field} → field_at s 2 ≡ Some a → a.end ≡ length s → read_line s ≡ event_of (get_or s 0 0) (a.value ∷ [])
   unfolding event_if
   one_number f e = rw (opened l, field_last s 2 l.two f e)
 
-module _ {s : List ℕ} {a i : ℕ} (o : OneFound s a i) where
-  after_one : read_line s ≡ event_if (get_or s 0 0) (both (some a) (numbers (fields_of (drop (i + 1) s))))
+module _ {s : List ℕ} {a : Field} (o : OneFound s a) where
+  after_one : read_line s ≡ event_if (get_or s 0 0) (both (Some a.value) (numbers (fields_of (drop (a.end + 1) s))))
   after_one = rw (opened o.lettered, field_more s 2 o.lettered.two o.first o.more)
 
-  pub no_second : field_at s (i + 1) ≡ Nothing → read_line s ≡ Broken
+  pub no_second : field_at s (a.end + 1) ≡ None → read_line s ≡ None
   unfolding event_if
-  no_second g = rw (after_one, field_none s (i + 1) g)
+  no_second g = rw (after_one, field_none s (a.end + 1) g)
 
-  pub two_numbers : {b j : ℕ} → field_at s (i + 1) ≡ Decimal b j → j ≡ length s → read_line s ≡ event_of (get_or s 0 0) (a ∷ b ∷ [])
+  pub two_numbers : {b : Field} → field_at s (a.end + 1) ≡ Some b → b.end ≡ length s → read_line s ≡ event_of (get_or s 0 0) (a.value ∷ b.value ∷ [])
   unfolding event_if
-  two_numbers g e = rw (after_one, field_last s (i + 1) (omega (arith, o.more)) g e)
+  two_numbers g e = rw (after_one, field_last s (a.end + 1) (omega (arith, o.more)) g e)
 
-module _ {s : List ℕ} {a i b j : ℕ} (t : TwoFound s a i b j) where
-  after_two : read_line s ≡ event_if (get_or s 0 0) (both (some a) (both (some b) (numbers (fields_of (drop (j + 1) s)))))
-  after_two = rw (after_one t.one, field_more s (i + 1) (omega (arith, t.one.more)) t.second t.more)
+module _ {s : List ℕ} {a b : Field} (t : TwoFound s a b) where
+  after_two : read_line s ≡ event_if (get_or s 0 0) (both (Some a.value) (both (Some b.value) (numbers (fields_of (drop (b.end + 1) s)))))
+  after_two = rw (after_one t.one, field_more s (a.end + 1) (omega (arith, t.one.more)) t.second t.more)
 
-  pub no_third : field_at s (j + 1) ≡ Nothing → read_line s ≡ Broken
+  pub no_third : field_at s (b.end + 1) ≡ None → read_line s ≡ None
   unfolding event_if
-  no_third h = rw (after_two, field_none s (j + 1) h)
+  no_third h = rw (after_two, field_none s (b.end + 1) h)
 
-  pub three_numbers : {c k : ℕ} → field_at s (j + 1) ≡ Decimal c k → k ≡ length s → read_line s ≡ event_of (get_or s 0 0) (a ∷ b ∷ c ∷ [])
+  pub three_numbers : {c : Field} → field_at s (b.end + 1) ≡ Some c → c.end ≡ length s → read_line s ≡ event_of (get_or s 0 0) (a.value ∷ b.value ∷ c.value ∷ [])
   unfolding event_if
-  three_numbers h e = rw (after_two, field_last s (j + 1) (omega (arith, t.more)) h e)
+  three_numbers h e = rw (after_two, field_last s (b.end + 1) (omega (arith, t.more)) h e)
 
-  pub four_fields : {c k : ℕ} → field_at s (j + 1) ≡ Decimal c k → k < length s → read_line s ≡ Broken
-  four_fields {c} {k} h e =
-      rw (after_two, field_more s (j + 1) (omega (arith, t.more)) h e) (too_many (get_or s 0 0) a b c (drop (k + 1) s))
+  pub four_fields : {c : Field} → field_at s (b.end + 1) ≡ Some c → c.end < length s → read_line s ≡ None
+  four_fields {c} h e =
+      rw (after_two, field_more s (b.end + 1) (omega (arith, t.more)) h e) (too_many (get_or s 0 0) a.value b.value c.value (drop (c.end + 1) s))

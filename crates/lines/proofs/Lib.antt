@@ -4,6 +4,8 @@ pub mod Cutting
 pub mod Decimals
 -- a line taken field by field
 pub mod Fields
+-- what a letter and its numbers name
+pub mod Naming
 -- digits counted, filled from the end and put into a buffer
 pub mod Digits
 -- a field is a decimal exactly when it is the digits of a number

@@ -8,7 +8,7 @@ use native.Mathlib.Omega.{arith}
 use lib.ListN.{length, take, drop, length-append, length-take}
 use lib.Seq.{take_all}
 use Rattle.laws.proofs.Tests.{le_or_lt}
-use Rattle.head.specs.declared.Line.TheVariants.{Broken}
+use Rattle.std.specs.Prelude.{None}
 use Rattle.share.specs.declared.Table.{Table}
 use Rattle.lines.specs.Cut.{newline, cut_at, before, lines_of}
 use Rattle.lines.specs.Grammar.{read_line}
@@ -48,7 +48,7 @@ overlong_first line t [] q r u v h k = absurd (omega arith)
 overlong_first line t (b ∷ p) [] r u v h k = absurd (omega arith)
 overlong_first line t (b ∷ p) (c ∷ q) r u v h k = rw (cut_unmarked newline [] b p r u, cut_unmarked newline [] c q r v) (by (lines_of r))
   where
-    long : (x l : List ℕ) → 40 < length x → read_line (x ++ l) ≡ Broken
+    long : (x l : List ℕ) → 40 < length x → read_line (x ++ l) ≡ None
     long x l h = overlong (x ++ l) (omega (arith, length-append x l))
 
     by : (ls : List (List ℕ)) → answers line t (prepend (b ∷ p) ls) ≡ answers line t (prepend (c ∷ q) ls)

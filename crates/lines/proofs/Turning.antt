@@ -3,13 +3,15 @@
 use mathlib.Core.Path.{◌≡◌, refl, sym, ◌∙◌}
 use mathlib.Core.Bool.{true, false}
 use mathlib.Core.List.{List, [], ◌∷◌, ◌++◌, append_assoc, append-nil}
-use Prim.Native.Nat.{ℕ, zero, suc, ◌+◌, ◌-◌, ◌≤◌, ◌<◌}
+use mathlib.Core.Logic.{⊎_elim}
+use Prim.Native.Nat.{ℕ, zero, suc, min, ◌+◌, ◌-◌, ◌≤◌, ◌<◌}
 use native.Mathlib.Nat.{sub-zero}
-use native.Mathlib.Numerals.{add-one}
 use native.Mathlib.Omega.{arith}
-use lib.ListN.{length, take, drop, set, get_or, length-take, length-drop, length-set}
-use lib.Seq.{drop-drop, drop-cons, take-suc-set, drop-set-lt, drop-set-add, take-nil}
-use Rattle.laws.proofs.Tests.{clash}
+use lib.ListN.{length, take, drop, set, length-take, length-drop}
+use lib.Seq.{paste, drop-drop, take-suc-set, drop-set-add, take-nil, take_all, take_at}
+use Rattle.std.proofs.lemmas.List.{take-take}
+use Rattle.std.proofs.lemmas.List.Edits.{length-paste}
+use Rattle.laws.proofs.Tests.{clash, le_or_lt}
 use Rattle.lines.specs.declared.Done.{Done}
 use Rattle.lines.specs.declared.State.{State}
 use Rattle.lines.specs.Cut.{newline, cut_at}
@@ -26,64 +28,44 @@ drop_take (suc n) (suc m) (b ∷ l) = let e : suc m - suc n ≡ m - n = omega ar
 pub bytes_after : (buf : List ℕ) (from have n : ℕ) → drop n (bytes_in buf from have) ≡ bytes_in buf (from + n) have
 bytes_after buf from have n = let e : have - from - n ≡ have - (from + n) = omega arith in rw (drop_take n (have - from) (drop from buf), drop-drop, e)
 
--- what holds of the loop that moves the line: what was moved, and what is left to move, make the line
-pub record Keeping (buf₀ : List ℕ) (from have : ℕ) (buf : List ℕ) (i j : ℕ) : Type 0 where
-  pub few : i ≤ 41
-  pub behind : i ≤ j
-  pub upto : j ≤ have
-  pub inside : have ≤ length buf
-  pub same : length buf ≡ length buf₀
-  pub makes : take i buf ++ take (41 - i) (bytes_in buf j have) ≡ take 41 (bytes_in buf₀ from have)
+-- the first bytes of a line copied to the front, as many as are kept
+pub moved : (buf : List ℕ) (from have kept : ℕ) → kept ≡ min (have - from) 41 → from ≤ have → have ≤ length buf
+    → MovedToFront buf from have (paste buf 0 (drop from buf) kept) kept
+moved buf from have kept k h l =
+    record {
+      few = omega arith;
+      within = omega (arith, length-paste buf 0 (drop from buf) kept (omega arith) (omega (arith, length-drop from buf)));
+      front = copied ∙ ⊎_elim whole cut (le_or_lt (have - from) 41);
+    }
+  where
+    copied : take kept (paste buf 0 (drop from buf) kept) ≡ take kept (drop from buf)
+    copied = take_at (take kept (drop from buf)) (drop (0 + kept) buf) kept (simp (length-take, length-drop) (omega arith))
 
-pub keeping_first : (buf : List ℕ) (from have : ℕ) → from ≤ have → have ≤ length buf → Keeping buf from have buf 0 from
-keeping_first buf from have h k = record { few = omega arith; behind = omega arith; upto = h; inside = k; same = refl; makes = refl }
+    whole : have - from ≤ 41 → take kept (drop from buf) ≡ take 41 (bytes_in buf from have)
+    whole few =
+        let e : kept ≡ have - from = omega arith in
+        rw (e, take_all 41 (bytes_in buf from have) (simp length-take (omega arith)))
 
-module _ {buf₀ : List ℕ} {from have : ℕ} {buf : List ℕ} {i j : ℕ} (w : Keeping buf₀ from have buf i j) where
-  pub keeping_next : j < have → (i ≡ 41 → ⊥) → Keeping buf₀ from have (set buf i (get_or buf j 0)) (i + 1) (j + 1)
-  keeping_next h n =
-      record {
-        few = omega (arith, w.few, n);
-        behind = omega (arith, w.behind);
-        upto = omega arith;
-        inside = simp length-set w.inside;
-        same = simp length-set w.same;
-        makes =
-            let here : i < length buf = omega (arith, w.behind, w.inside) in
-            let there : j < length buf = omega (arith, w.inside) in
-            let left : have - j ≡ suc (have - (j + 1)) = omega arith in
-            let room : 41 - i ≡ suc (41 - (i + 1)) = omega (arith, w.few, n) in
-            let old : i < j + 1 = omega (arith, w.behind) in
-            let next : take (i + 1) (set buf i (get_or buf j 0)) ≡ take i buf ++ (get_or buf j 0 ∷ []) = rw add-one (take-suc-set buf i (get_or buf j 0) here) in
-            let same_rest : drop (j + 1) (set buf i (get_or buf j 0)) ≡ drop (j + 1) buf = drop-set-lt (j + 1) buf i (get_or buf j 0) old in
-            let first : bytes_in buf j have ≡ get_or buf j 0 ∷ bytes_in buf (j + 1) have = rw (left, add-one j, drop-cons buf j 0 there) in
-            rw (next, same_rest, append_assoc) (rw (room, first) at w.makes);
-      }
-
-  pub keeping_last : 41 - i ≡ 0 → MovedToFront buf₀ from have buf i
-  keeping_last e =
-      record { few = w.few; within = omega (arith, w.behind, w.upto, w.inside); front = sym (append-nil (take i buf)) ∙ rw e at w.makes }
-
-  pub keeping_all : have ≤ j → MovedToFront buf₀ from have buf i
-  keeping_all h =
-      let e : have - j ≡ 0 = omega arith in
-      record {
-        few = w.few;
-        within = omega (arith, w.behind, w.upto, w.inside);
-        front = sym (append-nil (take i buf)) ∙ rw (e, take-nil) at w.makes;
-      }
+    cut : 41 < have - from → take kept (drop from buf) ≡ take 41 (bytes_in buf from have)
+    cut many =
+        let e : kept ≡ 41 = omega arith in
+        rw (e, take-take 41 (have - from) (drop from buf) (omega arith))
 
 -- a state that its buffer cannot hold stays as it is
 pub turned_idle : (s : State) (buf out : List ℕ) → (s.from ≤ s.have → s.have ≤ length buf → ⊥) → Turned s buf buf out (idle_as s)
 turned_idle s buf out n =
     record { room = omega arith; prints = λ rest. refl; waits = λ e. absurd (clash refl e); stopped = λ a b e. absurd (n a b) }
 
-module _ (s : State) (entry : List ℕ) {out : List ℕ} {d : Done} (w : Worked s.line s.table (held_in s entry) out d) where
+module _ (s : State) (entry : List ℕ) {held out : List ℕ} {d : Done} (is : held ≡ held_in s entry) (w : Worked s.line s.table held out d) where
+  left_over : (rest : List ℕ) → prints_on s entry rest ≡ take d.written out ++ prints_from d.line d.table (bytes_in entry (s.from + d.read) s.have ++ rest)
+  left_over rest = rw (is, bytes_after) at (w.prints rest)
+
   pub turned_more : d.ends ≡ false → Turned s entry entry out
       (record { table = d.table; line = d.line; from = s.from + d.read; have = s.have; more = true; written = d.written })
   turned_more e =
       record {
         room = w.room;
-        prints = λ rest. w.prints rest ∙ rw (bytes_after entry s.from s.have d.read);
+        prints = left_over;
         waits = λ m. absurd (clash refl m);
         stopped = λ a b m. w.stopped e;
       }
@@ -91,11 +73,11 @@ module _ (s : State) (entry : List ℕ) {out : List ℕ} {d : Done} (w : Worked 
   pub turned_ends : {exit : List ℕ} {k : ℕ} → d.ends ≡ true → MovedToFront entry (s.from + d.read) s.have exit k
       → Turned s entry exit out (record { table = d.table; line = d.line; from = 0; have = k; more = false; written = d.written })
   turned_ends {exit} {k} e p =
-      let left : Unfinished (bytes_in entry (s.from + d.read) s.have) = rw bytes_after at (w.ended e) in
+      let left : Unfinished (bytes_in entry (s.from + d.read) s.have) = rw (is, bytes_after) at (w.ended e) in
       let front : take (k - 0) exit ≡ take 41 (bytes_in entry (s.from + d.read) s.have) = rw sub-zero p.front in
       record {
         room = w.room;
-        prints = λ rest. w.prints rest ∙ rw (bytes_after entry s.from s.have d.read, front, cut_short);
+        prints = λ rest. left_over rest ∙ rw (front, cut_short);
         waits = λ _. record { unfinished = rw front (unfinished_take 41 (bytes_in entry (s.from + d.read) s.have) left); first = refl; few = p.few };
         stopped = λ a b m. absurd (clash m refl);
       }

@@ -1,5 +1,5 @@
 -- What holds of the loop over the lines of a piece: whatever comes after it, the piece prints what is written and then what is left of it.
-use mathlib.Core.Path.{◌≡◌, refl, ap, ◌∙◌}
+use mathlib.Core.Path.{◌≡◌, refl, ◌∙◌}
 use mathlib.Core.Bool.{true, false}
 use mathlib.Core.List.{List, ◌++◌, append_assoc}
 use mathlib.Core.Logic.{◌⊎◌}
@@ -12,19 +12,19 @@ use Rattle.laws.proofs.Tests.{clash}
 use Rattle.head.specs.declared.Answer.{Answer}
 use Rattle.head.specs.declared.Answer.TheVariants.{Accepted, Granted, Reported, Stands, Refused}
 use Rattle.head.specs.declared.Event.{Event}
-use Rattle.head.specs.declared.Line.{Line}
-use Rattle.head.specs.declared.Line.TheVariants.{Known, Broken}
+use Rattle.std.specs.Prelude.{Option, None, Some}
 use Rattle.head.specs.declared.Shown.{Shown}
 use Rattle.head.specs.Answers.{number, plainly, shown_as, broken}
-use Rattle.share.specs.declared.Reply.{Reply}
 use Rattle.share.specs.declared.Table.{Table}
+use Rattle.share.specs.declared.Reply.{Reply}
 use Rattle.share.specs.Calls.{step}
+use Rattle.lines.specs.declared.Done.{Done}
 use Rattle.lines.specs.Cut.{newline, before}
 use Rattle.lines.specs.Grammar.{read_line}
 use Rattle.lines.specs.Places.{Wrote}
 use Rattle.lines.specs.Print.{answer_line, shown_line, who_in, slice_in, printed, after, prints_from}
 use Rattle.lines.specs.Pieces.{Unfinished, Worked, bytes_in}
-use Rattle.lines.proofs.Cutting.{before_length, before_take, found_nowhere}
+use Rattle.lines.proofs.Cutting.{before_take}
 use Rattle.lines.proofs.Digits.{wrote_length, wrote_take, shown_most}
 use Rattle.lines.proofs.Pieces.{first_line}
 
@@ -37,85 +37,78 @@ shown_reply line (Reported denominator) sum total = refl
 shown_reply line (Stands standing) sum total = refl
 shown_reply line (Refused why) sum total = refl
 
-known_line : (line : ℕ) (t : Table) (event : Event) → shown_line line (shown_as (step t event).answer) (step t event).table.head.sum (step t event).table.head.total ≡ printed line t (Known event)
+known_line : (line : ℕ) (t : Table) (event : Event) → shown_line line (shown_as (step t event).answer) (step t event).table.head.sum (step t event).table.head.total ≡ printed line t (Some event)
 unfolding printed
 known_line line t event = shown_reply line (step t event).answer (step t event).table.head.sum (step t event).table.head.total
 
-broken_line : (line : ℕ) (t : Table) → shown_line line (plainly broken) t.head.sum t.head.total ≡ printed line t Broken
+broken_line : (line : ℕ) (t : Table) → shown_line line (plainly broken) t.head.sum t.head.total ≡ printed line t None
 unfolding printed shown_line
 broken_line line t = refl
 
-printed_most : (line : ℕ) (t : Table) (l : Line) → length (printed line t l) ≤ 126
-printed_most line t (Known event) = rw (← known_line line t event) (shown_most line (shown_as (step t event).answer) (step t event).table.head.sum (step t event).table.head.total)
-printed_most line t Broken = rw (← broken_line line t) (shown_most line (plainly broken) t.head.sum t.head.total)
+printed_most : (line : ℕ) (t : Table) (l : Option Event) → length (printed line t l) ≤ 126
+printed_most line t (Some event) = rw (← known_line line t event) (shown_most line (shown_as (step t event).answer) (step t event).table.head.sum (step t event).table.head.total)
+printed_most line t None = rw (← broken_line line t) (shown_most line (plainly broken) t.head.sum t.head.total)
 
-pub record Working (line : ℕ) (t : Table) (input out₀ out : List ℕ) (u : Table) (next i written : ℕ) : Type 0 where
-  pub within : i ≤ length input
-  pub room : written ≤ length out
+pub record Working (line : ℕ) (t : Table) (input out₀ out : List ℕ) (d : Done) : Type 0 where
+  pub within : d.read ≤ length input
+  pub room : d.written ≤ length out
   pub same : length out ≡ length out₀
-  pub numbered : next < 2 ^ 64
-  pub prints : (rest : List ℕ) → prints_from line t (input ++ rest) ≡ take written out ++ prints_from next u (drop i input ++ rest)
+  pub numbered : d.line < 2 ^ 64
+  pub ends : d.ends ≡ true
+  pub prints : (rest : List ℕ) → prints_from line t (input ++ rest) ≡ take d.written out ++ prints_from d.line d.table (drop d.read input ++ rest)
 
-pub working_first : (line : ℕ) (t : Table) (input out : List ℕ) → line < 2 ^ 64 → Working line t input out out t line 0 0
-working_first line t input out h = record { within = omega arith; room = omega arith; same = refl; numbered = h; prints = λ rest. refl }
+pub working_first : (line : ℕ) (t : Table) (input out : List ℕ) → line < 2 ^ 64
+    → Working line t input out out (record { read = 0; written = 0; ends = true; line = line; table = t })
+working_first line t input out h = record { within = omega arith; room = omega arith; same = refl; numbered = h; ends = refl; prints = λ rest. refl }
 
--- what holds besides where the next line is whole: it ends at e, its answer has room, and there is a number for the line after it
-pub record AtLine (line : ℕ) (t : Table) (input out₀ out : List ℕ) (u : Table) (next i written e : ℕ) : Type 0 where
-  pub working : Working line t input out₀ out u next i written
-  pub ends : e ≡ i + length (before newline (drop i input))
-  pub inside : e < length input
-  pub has_room : written + 126 ≤ length out
-  pub has_number : next + 1 < 2 ^ 64
-
-module _ {line : ℕ} {t : Table} {input out₀ out : List ℕ} {u : Table} {next i written e : ℕ} (h : AtLine line t input out₀ out u next i written e) where
-  the_line : bytes_in input i e ≡ before newline (drop i input)
-  the_line = let k : e - i ≡ length (before newline (drop i input)) = omega (arith, h.ends) in rw k (before_take newline (drop i input))
-
-  -- one line more is answered: what it prints stands in the buffer, and the table is the one after it
-  module _ {l : Line} (read : read_line (bytes_in input i e) ≡ l) {v : Table} (moved : v ≡ after u l) {o : List ℕ} {p : ℕ} (x : Wrote out written (printed next u l) o p) where
-    fits : p ≤ length out
-    fits = omega (arith, h.has_room, x.place, printed_most next u l)
-
-    prints_next : (rest : List ℕ) → take written out ++ prints_from next u (drop i input ++ rest) ≡ take p o ++ prints_from (next + 1) v (drop (e + 1) input ++ rest)
-    prints_next rest =
-        let inner : length (before newline (drop i input)) < length (drop i input) = omega (arith, h.ends, h.inside, length-drop i input) in
-        let past : i + suc (length (before newline (drop i input))) ≡ e + 1 = omega (arith, h.ends) in
-        rw (first_line next u (drop i input) rest inner, drop-drop, past, wrote_take x fits, moved, rw the_line at read, append_assoc, add-one next)
-
-    next_turn : Working line t input out₀ o v (next + 1) (e + 1) p
-    next_turn =
-        record {
-          within = omega (arith, h.inside);
-          room = omega (arith, wrote_length x, fits);
-          same = wrote_length x ∙ h.working.same;
-          numbered = h.has_number;
-          prints = λ rest. h.working.prints rest ∙ prints_next rest;
-        }
-
-  pub working_known : {event : Event} → read_line (bytes_in input i e) ≡ Known event → {reply : Reply} → reply ≡ step u event
-      → {a : Shown} → a ≡ shown_as reply.answer → {o : List ℕ} {p : ℕ} → Wrote out written (shown_line next a reply.table.head.sum reply.table.head.total) o p
-      → Working line t input out₀ o reply.table (next + 1) (e + 1) p
-  unfolding after
-  working_known known is shows x = next_turn known (rw is) (rw (shows, is, known_line) at x)
-
-  pub working_broken : read_line (bytes_in input i e) ≡ Broken → {a : Shown} → a ≡ plainly broken
-      → {o : List ℕ} {p : ℕ} → Wrote out written (shown_line next a u.head.sum u.head.total) o p → Working line t input out₀ o u (next + 1) (e + 1) p
-  unfolding after
-  working_broken told shows x = next_turn told refl (rw (shows, broken_line) at x)
-
-module _ {line : ℕ} {t : Table} {input out₀ out : List ℕ} {u : Table} {next i written : ℕ} (w : Working line t input out₀ out u next i written) where
-  pub end_within : {e : ℕ} → e ≡ i + length (before newline (drop i input)) → e ≤ length input
-  end_within at = omega (arith, w.within, before_length newline (drop i input), length-drop i input)
+module _ {line : ℕ} {t : Table} {input out₀ out : List ℕ} {d : Done} (w : Working line t input out₀ out d) where
+  abbrev left : List ℕ
+  left = drop d.read input
 
   -- what is left has no newline, or there is no room or number for its line
-  pub working_ended : Unfinished (drop i input) → Worked line t input out (record { read = i; written = written; ends = true; line = next; table = u })
-  working_ended s = record { within = w.within; room = w.room; prints = w.prints; ended = λ e. s; stopped = λ e. absurd (clash refl e) }
+  pub working_ended : Unfinished left → Worked line t input out d
+  working_ended s = record { within = w.within; room = w.room; prints = w.prints; ended = λ e. s; stopped = λ e. absurd (clash w.ends e) }
 
-  pub working_stopped : (length out < written + 126) ⊎ (next + 1 ≡ 2 ^ 64) → Worked line t input out (record { read = i; written = written; ends = false; line = next; table = u })
+  pub working_stopped : (length out < d.written + 126) ⊎ (d.line + 1 ≡ 2 ^ 64)
+      → Worked line t input out (record { read = d.read; written = d.written; ends = false; line = d.line; table = d.table })
   working_stopped s = record { within = w.within; room = w.room; prints = w.prints; ended = λ e. absurd (clash e refl); stopped = λ e. s }
 
-  pub at_last_line : i + length (before newline (drop i input)) ≡ length input → Unfinished (drop i input)
-  at_last_line e = omega (arith, length-drop i input, w.within)
+  -- the next line is whole: it has n bytes, its answer has room, and there is a number for the line after it
+  module _ {n : ℕ} (at : n ≡ length (before newline left)) (inside : n < length left) (has_room : d.written + 126 ≤ length out) (has_number : d.line + 1 < 2 ^ 64) where
+    the_line : bytes_in input d.read (d.read + n) ≡ before newline left
+    the_line = let k : d.read + n - d.read ≡ length (before newline left) = omega arith in rw k (before_take newline left)
 
-  pub at_end_of_piece : length input ≤ i → Unfinished (drop i input)
-  at_end_of_piece h = omega (arith, length-drop i input, ap length (found_nowhere newline input i (omega (arith, w.within))), w.within)
+    -- it is answered: what it prints stands in the buffer, and the table is the one after it
+    module _ {l : Option Event} (read : l ≡ read_line (bytes_in input d.read (d.read + n))) {v : Table} (moved : v ≡ after d.table l) {o : List ℕ} {p : ℕ}
+        (x : Wrote out d.written (printed d.line d.table l) o p) where
+      fits : p ≤ length out
+      fits = omega (arith, x.place, printed_most d.line d.table l)
+
+      prints_next : (rest : List ℕ) → take d.written out ++ prints_from d.line d.table (left ++ rest) ≡ take p o ++ prints_from (d.line + 1) v (drop (d.read + n + 1) input ++ rest)
+      prints_next rest =
+          let whole : length (before newline left) < length left = omega arith in
+          let past : d.read + suc (length (before newline left)) ≡ d.read + n + 1 = omega arith in
+          rw (first_line d.line d.table left rest whole, drop-drop, past, wrote_take x fits, moved, rw the_line at read, append_assoc, add-one d.line)
+
+      next_turn : Working line t input out₀ o (record { read = d.read + n + 1; written = p; ends = d.ends; line = d.line + 1; table = v })
+      next_turn =
+          record {
+            within = omega (arith, length-drop d.read input, w.within);
+            room = omega (arith, wrote_length x, fits);
+            same = wrote_length x ∙ w.same;
+            numbered = has_number;
+            ends = w.ends;
+            prints = λ rest. w.prints rest ∙ prints_next rest;
+          }
+
+    pub working_known : {event : Event} → Some event ≡ read_line (bytes_in input d.read (d.read + n)) → {reply : Reply} → reply ≡ step d.table event
+        → {a : Shown} → a ≡ shown_as reply.answer → {o : List ℕ} {p : ℕ} → Wrote out d.written (shown_line d.line a reply.table.head.sum reply.table.head.total) o p
+        → Working line t input out₀ o (record { read = d.read + n + 1; written = p; ends = d.ends; line = d.line + 1; table = reply.table })
+    unfolding after
+    working_known known is shows x = next_turn known (rw is) (rw (shows, is, known_line) at x)
+
+    pub working_broken : None ≡ read_line (bytes_in input d.read (d.read + n)) → {a : Shown} → a ≡ plainly broken
+        → {o : List ℕ} {p : ℕ} → Wrote out d.written (shown_line d.line a d.table.head.sum d.table.head.total) o p
+        → Working line t input out₀ o (record { read = d.read + n + 1; written = p; ends = d.ends; line = d.line + 1; table = d.table })
+    unfolding after
+    working_broken told shows x = next_turn told refl (rw (shows, broken_line) at x)

@@ -1,6 +1,5 @@
 -- A decimal as a field of a line, and the digits of a number as they are printed.
-use Rattle.std.specs.Prelude.{Bool, true, cond, not, ◌&&◌, List, [], ◌∷◌, ◌++◌, ℕ, zero, suc, ◌+◌, ◌-◌, ◌*◌, ◌/◌, ◌%◌, leb, ltb, eqb, length}
-use Rattle.std.proofs.Math.Option.{Option, none, some}
+use Rattle.std.specs.Prelude.{Bool, true, cond, not, ◌&&◌, List, [], ◌∷◌, ◌++◌, ℕ, zero, suc, ◌+◌, ◌-◌, ◌*◌, ◌/◌, ◌%◌, leb, ltb, eqb, length, Option, None, Some}
 use Rattle.laws.specs.Lists.{every, all}
 
 abbrev pub digit : ℕ → Bool
@@ -22,7 +21,7 @@ unfoldable pub is_decimal : List ℕ → Bool
 is_decimal f = every (leb 1 (length f) ∷ leb (length f) 5 ∷ all digit f ∷ no_leading_zero f ∷ [])
 
 unfoldable pub decimal : List ℕ → Option ℕ
-decimal f = cond (is_decimal f) (some (value_from 0 f)) none
+decimal f = cond (is_decimal f) (Some (value_from 0 f)) None
 
 -- the digits of a number that has at most one more than `k`
 unfoldable pub digits_in : ℕ → ℕ → List ℕ

@@ -1,12 +1,9 @@
 -- The lines of bandtrace: which event a line of bytes is, and the line that an event is written as.
-use Rattle.std.specs.Prelude.{Bool, true, false, cond, List, [], ◌∷◌, ◌++◌, ◌≡◌, ℕ, ◌<◌, leb, eqb, length}
-use Rattle.std.proofs.Math.Option.{Option, none, some}
+use Rattle.std.specs.Prelude.{Bool, true, false, cond, List, [], ◌∷◌, ◌++◌, ◌≡◌, ℕ, ◌<◌, leb, eqb, length, Option, None, Some}
 use Rattle.rows.specs.declared.Terms.{Terms}
 use Rattle.rows.specs.Numbers.{default_length}
 use Rattle.head.specs.declared.Event.{Event}
 use Rattle.head.specs.declared.Event.TheVariants.{Fresh, Join, Leave, Reweight, Length, Grant, Return}
-use Rattle.head.specs.declared.Line.{Line}
-use Rattle.head.specs.declared.Line.TheVariants.{Known, Broken}
 use Rattle.lines.specs.Cut.{space, fields_of}
 use Rattle.lines.specs.Decimal.{decimal, digits}
 
@@ -33,52 +30,52 @@ abbrev pub letter_u : ℕ
 letter_u = 85
 
 -- "early 0 or 1"
-abbrev pub return_of : ℕ → ℕ → ℕ → Line
-return_of queue used early = cond (leb early 1) (Known (Return queue used (eqb early 1))) Broken
+abbrev pub return_of : ℕ → ℕ → ℕ → Option Event
+return_of queue used early = cond (leb early 1) (Some (Return queue used (eqb early 1))) None
 
-abbrev pub fresh_of : ℕ → ℕ → ℕ → Line
-fresh_of limit rule default = Known (Fresh (record { limit = limit; rule = rule; default = default }))
+abbrev pub fresh_of : ℕ → ℕ → ℕ → Option Event
+fresh_of limit rule default = Some (Fresh (record { limit = limit; rule = rule; default = default }))
 
 -- "`S limit`, `J number weight length`, `L number`, `W number weight length`, `R number length`, `G`, `U number used early`";
 -- T-06, "`S` takes an optional second number and means rule 1 without it"; T-09, "the default as an optional third number, 8 without it"
-unfoldable pub event_of : ℕ → List ℕ → Line
-event_of letter [] = cond (eqb letter letter_g) (Known Grant) Broken
-event_of letter (a ∷ []) = cond (eqb letter letter_s) (fresh_of a 1 default_length) (cond (eqb letter letter_l) (Known (Leave a)) Broken)
+unfoldable pub event_of : ℕ → List ℕ → Option Event
+event_of letter [] = cond (eqb letter letter_g) (Some Grant) None
+event_of letter (a ∷ []) = cond (eqb letter letter_s) (fresh_of a 1 default_length) (cond (eqb letter letter_l) (Some (Leave a)) None)
 event_of letter (a ∷ b ∷ []) =
-    cond (eqb letter letter_s) (fresh_of a b default_length) (cond (eqb letter letter_r) (Known (Length a b)) Broken)
+    cond (eqb letter letter_s) (fresh_of a b default_length) (cond (eqb letter letter_r) (Some (Length a b)) None)
 event_of letter (a ∷ b ∷ c ∷ []) =
-    cond (eqb letter letter_j) (Known (Join a b c))
-    (cond (eqb letter letter_w) (Known (Reweight a b c))
-    (cond (eqb letter letter_u) (return_of a b c) (cond (eqb letter letter_s) (fresh_of a b c) Broken)))
-event_of letter (a ∷ b ∷ c ∷ d ∷ more) = Broken
+    cond (eqb letter letter_j) (Some (Join a b c))
+    (cond (eqb letter letter_w) (Some (Reweight a b c))
+    (cond (eqb letter letter_u) (return_of a b c) (cond (eqb letter letter_s) (fresh_of a b c) None)))
+event_of letter (a ∷ b ∷ c ∷ d ∷ more) = None
 
 -- the fields as numbers, if every one of them is a decimal
 abbrev pub both : Option ℕ → Option (List ℕ) → Option (List ℕ)
-both none ns = none
-both (some n) none = none
-both (some n) (some ns) = some (n ∷ ns)
+both None ns = None
+both (Some n) None = None
+both (Some n) (Some ns) = Some (n ∷ ns)
 
 unfoldable pub numbers : List (List ℕ) → Option (List ℕ)
-numbers [] = some []
+numbers [] = Some []
 numbers (f ∷ fs) = both (decimal f) (numbers fs)
 
-unfoldable pub event_if : ℕ → Option (List ℕ) → Line
-event_if letter none = Broken
-event_if letter (some ns) = event_of letter ns
+unfoldable pub event_if : ℕ → Option (List ℕ) → Option Event
+event_if letter None = None
+event_if letter (Some ns) = event_of letter ns
 
 -- the first field is one letter
-unfoldable pub event_named : List ℕ → Option (List ℕ) → Line
-event_named [] ns = Broken
+unfoldable pub event_named : List ℕ → Option (List ℕ) → Option Event
+event_named [] ns = None
 event_named (letter ∷ []) ns = event_if letter ns
-event_named (letter ∷ more ∷ name) ns = Broken
+event_named (letter ∷ more ∷ name) ns = None
 
-unfoldable pub event_in : List (List ℕ) → Line
-event_in [] = Broken
+unfoldable pub event_in : List (List ℕ) → Option Event
+event_in [] = None
 event_in (name ∷ fs) = event_named name (numbers fs)
 
 -- "a line of at most 40 bytes"; "Any other line is answered 15, an empty or overlong one too"
-unfoldable pub read_line : List ℕ → Line
-read_line l = cond (leb (length l) 40) (event_in (fields_of l)) Broken
+unfoldable pub read_line : List ℕ → Option Event
+read_line l = cond (leb (length l) 40) (event_in (fields_of l)) None
 
 -- The other way: an event with numbers of up to five digits, written as a line.
 abbrev pub spaced : List ℕ → List ℕ

@@ -1,10 +1,10 @@
 -- What bandtrace prints.
-use Rattle.std.specs.Prelude.{cond, List, [], ◌∷◌, ◌++◌, ℕ, suc}
+use Rattle.std.specs.Prelude.{List, [], ◌∷◌, ◌++◌, ℕ, suc, Option, None, Some}
 use Rattle.rows.specs.Numbers.{least_terms}
 use Rattle.head.specs.declared.Answer.{Answer}
 use Rattle.head.specs.declared.Answer.TheVariants.{Accepted, Granted, Reported, Stands, Refused}
-use Rattle.head.specs.declared.Line.{Line}
-use Rattle.head.specs.declared.Line.TheVariants.{Known, Broken}
+use Rattle.head.specs.declared.Event.{Event}
+use Rattle.head.specs.declared.Grant.{Grant}
 use Rattle.head.specs.declared.Shown.{Shown}
 use Rattle.head.specs.Answers.{number, broken}
 use Rattle.share.specs.declared.Reply.{Reply}
@@ -44,30 +44,34 @@ unfoldable pub answer_line : ℕ → ℕ → List ℕ → List ℕ → ℕ → �
 answer_line line answer who slice sum total =
     digits line ++ (space ∷ (digits answer ++ (space ∷ (who ++ (space ∷ (slice ++ (space ∷ (digits sum ++ (space ∷ (digits total ++ (newline ∷ [])))))))))))
 
--- the parts in which the writer puts it together
-abbrev pub dashes : List ℕ
-dashes = 45 ∷ space ∷ 45 ∷ space ∷ []
+-- an answer as numbers: queue and slice are printed where there is a grant
+abbrev pub queue_shown : Option Grant → List ℕ
+queue_shown None = dash
+queue_shown (Some grant) = digits grant.queue
 
-unfoldable pub sums : ℕ → ℕ → List ℕ
-sums sum total = (digits sum ++ (space ∷ [])) ++ (digits total ++ (newline ∷ []))
+abbrev pub slice_shown : Option Grant → List ℕ
+slice_shown None = dash
+slice_shown (Some grant) = digits grant.slice
 
--- an answer as numbers: `granted` says whether queue and slice are printed
+-- the part of the line that the writer puts for it
+unfoldable pub grant_shown : Option Grant → List ℕ
+grant_shown grant = queue_shown grant ++ (space ∷ (slice_shown grant ++ (space ∷ [])))
+
 unfoldable pub shown_line : ℕ → Shown → ℕ → ℕ → List ℕ
-shown_line line a sum total =
-    answer_line line a.answer (cond a.granted (digits a.queue) dash) (cond a.granted (digits a.slice) dash) sum total
+shown_line line a sum total = answer_line line a.answer (queue_shown a.grant) (slice_shown a.grant) sum total
 
 abbrev pub reply_line : ℕ → Reply → List ℕ
 reply_line line r =
     answer_line line (number r.answer) (who_in r.answer) (slice_in r.answer) r.table.head.sum r.table.head.total
 
 -- "Any other line is answered 15, ... and changes nothing."
-unfoldable pub printed : ℕ → Table → Line → List ℕ
-printed line t (Known event) = reply_line line (step t event)
-printed line t Broken = answer_line line broken dash dash t.head.sum t.head.total
+unfoldable pub printed : ℕ → Table → Option Event → List ℕ
+printed line t (Some event) = reply_line line (step t event)
+printed line t None = answer_line line broken dash dash t.head.sum t.head.total
 
-unfoldable pub after : Table → Line → Table
-after t (Known event) = (step t event).table
-after t Broken = t
+unfoldable pub after : Table → Option Event → Table
+after t (Some event) = (step t event).table
+after t None = t
 
 -- "one line for each input line"
 unfoldable pub answers : ℕ → Table → List (List ℕ) → List ℕ

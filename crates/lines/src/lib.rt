@@ -4,13 +4,13 @@
 mod reading;
 mod writing;
 
-ghost use Rattle.std.specs.Prelude.{◌≡◌, ◌+◌, ◌≤◌, length, drop};
+ghost use Rattle.std.specs.Prelude.{◌≡◌, ◌≤◌, ◌<◌, length, MatchOption};
 ghost use Rattle.lines.specs.Cut.{newline, before};
-ghost use Rattle.lines.specs.Pieces.{Worked, MovedToFront, begun, idle_as, grown_by, Turned, Closed};
+ghost use Rattle.lines.specs.Pieces.{Unfinished, Worked, MovedToFront, begun, idle_as, grown_by, Turned, Closed};
 ghost use Rattle.lines.specs.Print.{header as header_bytes};
 
 pub use reading::{LONGEST, read_line};
-use share::{BROKEN, Line, Shown, Table};
+use share::{BROKEN, Shown, Table};
 pub use writing::ROOM;
 use writing::write_answer;
 
@@ -33,11 +33,7 @@ pub struct State {
 pub fn header() -> [u8; 32]
     ensures { result ≡ header_bytes }
 {
-    [
-        b'l', b'i', b'n', b'e', b' ', b'a', b'n', b's', b'w', b'e', b'r', b' ', b'w', b'h', b'o',
-        b' ', b's', b'l', b'i', b'c', b'e', b' ', b's', b'u', b'm', b' ', b't', b'o', b't', b'a',
-        b'l', b'\n',
-    ]
+    *b"line answer who slice sum total\n"
 }
 
 // The table that refusal 14 gives, the first line, and nothing read.
@@ -58,37 +54,22 @@ pub fn begin() -> State
 pub fn turn(state: State, buf: &mut [u8], out: &mut [u8]) -> State
     ensures { Turned state buf.old buf.new out.new result }
 {
-    let table = state.table;
-    let line = state.line;
-    let from = state.from;
-    let have = state.have;
-    if buf.len() < have {
+    let Some(held) = buf.get(state.from..state.have) else {
         return state.idle();
-    }
-    if have < from {
-        return state.idle();
-    }
-    let done = work(table, line, &buf[from..have], out);
-    let after = done.table;
-    let next = from + done.read;
-    let ends = done.ends;
-    if ends {
-        let kept = keep(buf, next, have);
-        return State {
-            table: after,
-            line: done.line,
-            from: 0,
-            have: kept,
-            more: false,
-            written: done.written,
-        };
-    }
+    };
+    let done = work(state.table, state.line, held, out);
+    let next = state.from + done.read;
+    let (from, have) = if done.ends {
+        (0, keep(buf, next, state.have))
+    } else {
+        (next, state.have)
+    };
     State {
-        table: after,
+        table: done.table,
         line: done.line,
-        from: next,
+        from,
         have,
-        more: true,
+        more: !done.ends,
         written: done.written,
     }
 }
@@ -97,23 +78,13 @@ pub fn turn(state: State, buf: &mut [u8], out: &mut [u8]) -> State
 pub fn close(state: State, buf: &mut [u8]) -> State
     ensures { Closed state buf.old buf.new result }
 {
-    let table = state.table;
-    let from = state.from;
-    let have = state.have;
-    if have <= from {
+    if state.have <= state.from || buf.len() <= state.have {
         return state.idle();
     }
-    if buf.len() <= have {
-        return state.idle();
-    }
-    buf[have] = b'\n';
+    buf[state.have] = b'\n';
     State {
-        table,
-        line: state.line,
-        from,
-        have: have + 1,
-        more: true,
-        written: 0,
+        have: state.have + 1,
+        ..state.idle()
     }
 }
 
@@ -122,14 +93,10 @@ impl State {
     fn idle(self) -> State
         ensures { result ≡ idle_as self }
     {
-        let table = self.table;
         State {
-            table,
-            line: self.line,
-            from: self.from,
-            have: self.have,
             more: true,
             written: 0,
+            ..self
         }
     }
 
@@ -137,18 +104,12 @@ impl State {
     pub fn grown(self, n: usize) -> State
         ensures { result ≡ grown_by self n }
     {
-        let table = self.table;
-        let have = self.have;
-        if usize::MAX - have < n {
-            return self.idle();
-        }
-        State {
-            table,
-            line: self.line,
-            from: self.from,
-            have: have + n,
-            more: true,
-            written: 0,
+        match self.have.checked_add(n) {
+            Some(have) => State {
+                have,
+                ..self.idle()
+            },
+            None => self.idle(),
         }
     }
 }
@@ -168,81 +129,42 @@ pub struct Done {
 pub fn work(table: Table, line: u64, input: &[u8], out: &mut [u8]) -> Done
     ensures { Worked line table input.now out.new result }
 {
-    let mut t = table;
-    let mut line = line;
-    let mut i = 0;
-    let mut written = 0;
-    while i < input.len() {
-        let e = line_end(input, i);
-        if e == input.len() {
-            return Done {
-                read: i,
-                written,
-                ends: true,
-                line,
-                table: t,
-            };
-        }
-        if out.len() - written < ROOM {
-            return Done {
-                read: i,
-                written,
-                ends: false,
-                line,
-                table: t,
-            };
-        }
-        if line == u64::MAX {
-            return Done {
-                read: i,
-                written,
-                ends: false,
-                line,
-                table: t,
-            };
-        }
-        let Line::Known(event) = read_line(&input[i..e]) else {
-            written = write_answer(
-                out,
-                written,
-                line,
-                Shown::plain(BROKEN),
-                t.head.sum,
-                t.head.total,
-            );
-            line += 1;
-            i = e + 1;
-            continue;
-        };
-        let reply = t.apply(event);
-        let answer = reply.answer;
-        t = reply.table;
-        written = write_answer(out, written, line, answer.shown(), t.head.sum, t.head.total);
-        line += 1;
-        i = e + 1;
-    }
-    Done {
-        read: i,
-        written,
+    let mut done = Done {
+        read: 0,
+        written: 0,
         ends: true,
         line,
-        table: t,
+        table,
+    };
+    while let Some(length) = line_length(&input[done.read..]) {
+        if out.len() - done.written < ROOM || done.line == u64::MAX {
+            return Done {
+                ends: false,
+                ..done
+            };
+        }
+        let end = done.read + length;
+        let shown = match read_line(&input[done.read..end]) {
+            Some(event) => {
+                let reply = done.table.apply(event);
+                done.table = reply.table;
+                reply.answer.shown()
+            }
+            None => Shown::plain(BROKEN),
+        };
+        let head = done.table.head;
+        done.written = write_answer(out, done.written, done.line, shown, head.sum, head.total);
+        done.line += 1;
+        done.read = end + 1;
     }
+    done
 }
 
-// The place of the next newline, or the end.
-fn line_end(s: &[u8], from: usize) -> usize
-    requires { from ≤ length s.now }
-    ensures { result ≡ from + length (before newline (drop from s.now)) }
+// The length of the first line, if that is whole.
+fn line_length(s: &[u8]) -> Option<usize>
+    ensures { MatchOption result (Unfinished s.now) (λ n. (n ≡ length (before newline s.now)) × (n < length s.now)) }
 {
-    let mut i = from;
-    while i < s.len() {
-        if s[i] == b'\n' {
-            return i;
-        }
-        i += 1;
-    }
-    i
+    s.iter().position(|byte| *byte == b'\n')
 }
 
 // Moves an unfinished line to the front of the buffer, and answers how many bytes of it are kept.
@@ -250,15 +172,7 @@ fn keep(buf: &mut [u8], from: usize, have: usize) -> usize
     requires { (from ≤ have) × (have ≤ length buf.old) }
     ensures { MovedToFront buf.old from have buf.new result }
 {
-    let mut i = 0;
-    let mut j = from;
-    while j < have {
-        if i == KEPT {
-            return i;
-        }
-        buf[i] = buf[j];
-        i += 1;
-        j += 1;
-    }
-    i
+    let kept = (have - from).min(KEPT);
+    buf.copy_within(from..from + kept, 0);
+    kept
 }

@@ -39,9 +39,6 @@ module _ (low high n : ℕ) where
   unfolding outside
   inside_not l h = or_neither (le-ltb n low l) (le-ltb high n h)
 
-  pub outside_not : outside low high n ≡ true → low ≤ n → n ≤ high → ⊥
-  outside_not e above below = clash e (inside_not above below)
-
   pub says_outside : (n < low) ⊎ (high < n) → outside low high n ≡ true
   unfolding outside
   says_outside h = ⊎_elim (λ b. rw (lt-ltb n low b)) (λ a. or_second (ltb n low) (lt-ltb high n a)) h

@@ -1,5 +1,5 @@
 -- What events make of a row. The rows that they put in place are orderly: a newcomer's, one with another next length, and one that was charged. And
--- each way out of the code's tests, as the definition has it.
+-- how a request goes on after a charge, case by case.
 use mathlib.Core.Path.{◌≡◌, refl, subst}
 use mathlib.Core.Bool.{Bool, true, false, cond, ◌||◌}
 use Prim.Native.Nat.{ℕ, zero, suc, ◌+◌, ◌≤◌, ◌<◌}
@@ -17,7 +17,7 @@ use Rattle.rows.specs.Numbers.{ceiling, max_length, length_meant, step_of}
 use Rattle.rows.specs.Row.{is_asking, position_of, deadline_of, charged_to}
 use Rattle.rows.specs.Orderly.{InRange, OrderlyRequest, OrderlyAs, OrderlyRow, Allowed}
 use Rattle.rows.proofs.Orderly.{default_low, default_high}
-use Rattle.rows.specs.Requests.{opened, entering, next_set, row_next_set, served_to, served, charged}
+use Rattle.rows.specs.Requests.{opened, entering, next_set, served_to, served, charged}
 
 -- "a length of 0 in a call stands for the house default": whatever a call may give, a request's length is in range
 pub meant_low : (terms : Terms) (length : ℕ) → Allowed terms → 1 ≤ length_meant terms length
@@ -105,22 +105,6 @@ charged_orderly r q used early asks h high =
     let as_asking : OrderlyAs (Asking q) r.weight r.position = subst (λ (s : State). OrderlyAs s r.weight r.position) asks h in
     rw asks (served_orderly r.weight r.position used early q as_asking.0 as_asking.1 high)
 
-same_row : {r s : Row} → r.weight ≡ s.weight → r.position ≡ s.position → r.state ≡ s.state → r ≡ s
-same_row a b c = λ i. record { weight = a i; position = b i; state = c i }
-
-module _ (r : Row) (length : ℕ) where
-  pub next_free : r.state ≡ Free → r ≡ row_next_set r length
-  unfolding row_next_set
-  next_free e = same_row refl refl (rw e refl)
-
-  pub next_going : r.state ≡ Going → r ≡ row_next_set r length
-  unfolding row_next_set
-  next_going e = same_row refl refl (rw e refl)
-
-  pub next_asking : (q : Request) → r.state ≡ Asking q → record { weight = r.weight; position = r.position; state = Asking (record { opening = q.opening; length = q.length; served = q.served; next = length }) } ≡ row_next_set r length
-  unfolding row_next_set
-  next_asking q e = same_row refl refl (rw e refl)
-
 module _ (q : Request) (position used : ℕ) (early : Bool) where
   pub served_early : early ≡ true → opened position q.next ≡ served_to q position used early
   unfolding served_to
@@ -133,7 +117,3 @@ module _ (q : Request) (position used : ℕ) (early : Bool) where
   pub served_on : early ≡ false → q.served + used < q.length → record { opening = q.opening; length = q.length; served = q.served + used; next = q.next } ≡ served_to q position used early
   unfolding served_to
   served_on e h = rw (or_neither e (lt-leb q.length (q.served + used) h)) refl
-
-pub charged_as : (r : Row) (used : ℕ) (early : Bool) (s : State) → r.state ≡ s → record { weight = r.weight; position = charged_to r.weight r.position used; state = served s (charged_to r.weight r.position used) used early } ≡ charged r used early
-unfolding charged
-charged_as r used early s e = rw e refl

@@ -17,7 +17,6 @@ use Rattle.rows.specs.Numbers.{max_total}
 use Rattle.rows.specs.Row.{is_going}
 use Rattle.rows.specs.Virtual.{Reached, standing_at, not_ahead, reached, ready_as, ready_at}
 use Rattle.rows.specs.Looks.{beyond}
-use Rattle.rows.specs.Fits.{Crossing}
 
 -- so many units more make V reach a position, and one less does not
 pub record Short (position total sum units : ℕ) : Type 0 where
@@ -79,8 +78,8 @@ module _ (position total sum : ℕ) where
   pub reached_no : reached position total sum ≡ false → sum < position * total
   reached_no e = ⊎_elim (λ h. absurd (clash (yes_reached h) e)) (λ h. h) (le_or_lt (position * total) sum)
 
-pub cross_fits : {position total : ℕ} → Crossing position total → position * total ≤ beyond * max_total
-cross_fits h = mul-le-mul h.position_high h.total_high
+pub cross_fits : {position total : ℕ} → position ≤ beyond → total ≤ max_total → position * total ≤ beyond * max_total
+cross_fits h l = mul-le-mul h l
 
 -- a row is ready exactly if it is going and V has reached it
 ready_going : (total sum : ℕ) (s : State) (position : ℕ) → ready_as total sum s position ≡ true → is_going s ≡ true
@@ -110,3 +109,6 @@ module _ (total sum : ℕ) (r : Row) where
   pub is_ready : is_going r.state ≡ true → Reached r.position total sum → ready_at total sum r ≡ true
   unfolding ready_at
   is_ready = reached_ready total sum r.state r.position
+
+-- what the code's test goes by
+pub ruleset standing = (is_behind, is_level, is_ahead, ahead_weighs, cross_fits)

@@ -24,11 +24,10 @@ pub record Roomy (s : Seen) : Type 0 where
   pub moments_fit : s.moments + max_weight * ceiling < 2 ^ 64
 
 -- a request whose bid fits
-pub record Bidding (q : Request) (from total : ℕ) : Type 0 where
+pub record Bidding (q : Request) (from : ℕ) : Type 0 where
   pub from_high : from ≤ ceiling
   pub opening_high : q.opening ≤ ceiling
   pub length_high : q.length ≤ max_length
-  pub total_high : total ≤ max_total
 
 abbrev pub served_as : State → ℕ
 served_as Free = 0

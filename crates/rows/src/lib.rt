@@ -9,10 +9,10 @@ mod looking;
 mod ranges;
 mod serving;
 
-pub use looking::{Bid, Seen, UNSEEN, first_row, goes_before, place, seen_after};
+pub use looking::{Bid, First, Gauge, Seen, UNSEEN, goes_before};
 pub use ranges::{
-    exchanged, in_range, is_asking, is_free, is_ready, lesser, moment, outside, reached,
-    request_orderly, stands,
+    VirtualTime, exchanged, in_range, is_asking, is_free, is_ready, moment, outside,
+    request_orderly,
 };
 pub use serving::{charged, charged_to, length_meant, next_set, opened, served};
 
@@ -87,6 +87,7 @@ pub const BLANK: Row = Row {
 };
 
 // Position units that one tick moves a queue of this weight: 720,720 / weight, exact for each of the sixteen. 0 of a weight that no queue may have.
+#[tactic(auto, using(crate::proofs::Steps::step_other), unfolding(crate::specs::Numbers::step_of))]
 pub fn step_of(weight: u64) -> u64
     ensures { result ≡ step_of weight }
 {

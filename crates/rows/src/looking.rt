@@ -3,228 +3,161 @@
 ghost use Rattle.std.specs.Prelude.{◌≡◌, ◌≤◌};
 ghost use Rattle.rows.specs.Fits as fits;
 ghost use Rattle.rows.specs.Looks as looks;
-ghost use Rattle.rows.specs.Numbers.{ceiling, max_total, max_weight};
+ghost use Rattle.rows.specs.Numbers.{ceiling, max_weight};
 ghost use Rattle.rows.specs.Order as order;
 
-use crate::ranges::{in_range, lesser, reached, request_orderly};
+use crate::ranges::{VirtualTime, in_range, request_orderly};
 use crate::{Request, Row, State, Terms, step_of};
 
 // A position that no row of a sound table comes to.
 const BEYOND: u64 = crate::CEILING + 1;
 
-// What a request asks for the engine with.
-#[derive(Clone, Copy)]
+// What a request asks for the engine with. Its order is that of rule 2: by the deadline, then by the position.
+#[derive(Clone, Copy, PartialEq, Eq, PartialOrd, Ord)]
 pub struct Bid {
     pub deadline: u64,
     pub position: u64,
 }
 
-// What the rows so far come to: their parts in W and A, a position that no going row among them stands before, and of those that may be served the
-// one that goes first, with its bid; 64 while there is none. The walk ends at the first row with a fault.
+// The row that goes first of all that were looked at and may be served, with its bid.
 #[derive(Clone, Copy)]
-pub struct Seen {
-    pub faults: u64,
-    pub weights: u64,
-    pub moments: u64,
-    pub nearest: u64,
+pub struct First {
     pub queue: u64,
     pub bid: Bid,
 }
 
+// What the rows so far come to: their parts in W and A, a position that no going row among them stands before, and of those that may be served the
+// first, if there is one.
+#[derive(Clone, Copy)]
+pub struct Seen {
+    pub weights: u64,
+    pub moments: u64,
+    pub nearest: u64,
+    pub first: Option<First>,
+}
+
+// What rows are measured by: V as it is stored, and the terms.
+#[derive(Clone, Copy)]
+pub struct Gauge {
+    pub time: VirtualTime,
+    pub terms: Terms,
+}
+
 pub const UNSEEN: Seen = Seen {
-    faults: 0,
     weights: 0,
     moments: 0,
     nearest: BEYOND,
-    queue: crate::QUEUES,
-    bid: Bid {
-        deadline: 0,
-        position: 0,
-    },
+    first: None,
 };
 
 // Whether a bid goes before another: by its deadline, and under rule 2 of equal deadlines by its position. Of two that neither does, the lower number is
 // the first.
-#[tactic(auto, using(std::proofs::lemmas::Bool::Decides::nat_tests), unfolding(crate::specs::Order::goes_before))]
+#[tactic(auto, unfolding(crate::specs::Order::goes_before))]
 pub fn goes_before(terms: Terms, bid: Bid, other: Bid) -> bool
     ensures { result ≡ order.goes_before terms bid other }
 {
-    if terms.rule != 2 {
-        return bid.deadline < other.deadline;
-    }
-    if bid.deadline != other.deadline {
-        return bid.deadline < other.deadline;
-    }
-    bid.position < other.position
-}
-
-// Where the walk begins. A table that weighs more than 64 rows can is not walked over, so that no product overflows: nothing seen, it does not pass.
-pub fn first_row(total: u64) -> usize
-    ensures { result ≡ looks.first_row total }
-{
-    if crate::MAX_TOTAL < total {
-        return 64;
-    }
-    0
-}
-
-// A queue number as a place among the rows; 0 where there is no such row.
-pub fn place(queue: u64) -> usize
-    ensures { looks.Place queue result }
-{
-    if queue < crate::QUEUES {
-        return queue as usize;
-    }
-    0
-}
-
-fn faulted(seen: Seen) -> Seen
-    ensures { result ≡ looks.faulted seen }
-{
-    let bid = seen.bid;
-    Seen {
-        faults: 1,
-        weights: seen.weights,
-        moments: seen.moments,
-        nearest: seen.nearest,
-        queue: seen.queue,
-        bid,
+    if terms.rule == 2 {
+        bid < other
+    } else {
+        bid.deadline < other.deadline
     }
 }
 
-// The row's part in W and A.
-fn counting(seen: Seen, weight: u64, position: u64) -> Seen
-    requires { (fits.Roomy seen) × (weight ≤ max_weight) × (position ≤ ceiling) }
-    ensures { result ≡ looks.counting seen weight position }
-{
-    let bid = seen.bid;
-    Seen {
-        faults: seen.faults,
-        weights: seen.weights + weight,
-        moments: seen.moments + weight * position,
-        nearest: seen.nearest,
-        queue: seen.queue,
-        bid,
-    }
-}
-
-// A row that may be served: the first of all so far, or not.
-fn bidding(seen: Seen, at: u64, bid: Bid, terms: Terms) -> Seen
-    ensures { result ≡ looks.bidding terms seen at bid }
-{
-    let queue = seen.queue;
-    let best = seen.bid;
-    if queue < crate::QUEUES {
-        if !goes_before(terms, bid, best) {
-            return seen;
+impl Seen {
+    // One row more, or none if it has a fault: the walk ends there.
+    #[tactic(auto, unfolding(crate::specs::Looks::seen_after))]
+    pub fn after(self, at: u64, row: Row, gauge: Gauge) -> Option<Seen>
+        requires { fits.Roomy self }
+        ensures { result ≡ looks.seen_after gauge.terms gauge.time.total gauge.time.sum self at row }
+    {
+        match row.state {
+            State::Free => self.after_free(row),
+            State::Going => self.after_going(row, gauge.time),
+            State::Asking(q) => self.after_asking(at, q, row, gauge),
         }
     }
-    Seen {
-        faults: seen.faults,
-        weights: seen.weights,
-        moments: seen.moments,
-        nearest: seen.nearest,
-        queue: at,
-        bid,
-    }
-}
 
-// A row that is free must be all zero.
-fn seen_free(seen: Seen, weight: u64, position: u64) -> Seen
-    ensures { result ≡ looks.seen_free seen weight position }
-{
-    if 0 < weight {
-        return faulted(seen);
+    // A row that is free must be all zero.
+    #[tactic(auto, unfolding(crate::specs::Looks::seen_free, laws::specs::Lists::every))]
+    fn after_free(self, row: Row) -> Option<Seen>
+        ensures { result ≡ looks.seen_free self row.weight row.position }
+    {
+        if row.weight == 0 && row.position == 0 {
+            Some(self)
+        } else {
+            None
+        }
     }
-    if 0 < position {
-        return faulted(seen);
-    }
-    seen
-}
 
-// A row that is going must be one that V has not reached.
-fn seen_going(seen: Seen, weight: u64, position: u64, total: u64, sum: u64) -> Seen
-    requires { (fits.Roomy seen) × (total ≤ max_total) }
-    ensures { result ≡ looks.seen_going total sum seen weight position }
-{
-    if !in_range(weight, position) {
-        return faulted(seen);
+    // A row that is going must be one that V has not reached.
+    #[tactic(auto, using(crate::proofs::Orderly::in_range_lem), unfolding(crate::specs::Looks::seen_going, laws::specs::Lists::every))]
+    fn after_going(self, row: Row, time: VirtualTime) -> Option<Seen>
+        requires { fits.Roomy self }
+        ensures { result ≡ looks.seen_going time.total time.sum self row.weight row.position }
+    {
+        if !in_range(row.weight, row.position) || time.reached(row.position) {
+            return None;
+        }
+        let counted = self.counting(row);
+        Some(Seen {
+            nearest: counted.nearest.min(row.position),
+            ..counted
+        })
     }
-    if reached(position, total, sum) {
-        return faulted(seen);
-    }
-    let counted = counting(seen, weight, position);
-    let bid = counted.bid;
-    Seen {
-        faults: counted.faults,
-        weights: counted.weights,
-        moments: counted.moments,
-        nearest: lesser(counted.nearest, position),
-        queue: counted.queue,
-        bid,
-    }
-}
 
-// An asking row bids once V has reached `from`, the position at which it may be served. The caller says which that is: the opening.
-fn seen_bidding(
-    seen: Seen,
-    at: u64,
-    q: Request,
-    from: u64,
-    weight: u64,
-    position: u64,
-    total: u64,
-    sum: u64,
-    terms: Terms,
-) -> Seen
-    requires { fits.Bidding q from total }
-    ensures { result ≡ looks.seen_bidding terms total sum seen at q from weight position }
-{
-    if reached(from, total, sum) {
+    #[tactic(auto, using(crate::proofs::Orderly::in_range_lem, crate::proofs::Orderly::orderly_request_lem), unfolding(crate::specs::Looks::seen_asking, laws::specs::Lists::every, crate::specs::Row::position_of))]
+    fn after_asking(self, at: u64, q: Request, row: Row, gauge: Gauge) -> Option<Seen>
+        requires { fits.Roomy self }
+        ensures { result ≡ looks.seen_asking gauge.terms gauge.time.total gauge.time.sum self at q row.weight row.position }
+    {
+        if !in_range(row.weight, row.position)
+            || !request_orderly(q, row.weight, row.position, step_of(row.weight))
+        {
+            return None;
+        }
+        let counted = self.counting(row);
+        Some(counted.bidding_from(q.opening, at, q, row, gauge))
+    }
+
+    // The row's part in W and A.
+    fn counting(self, row: Row) -> Seen
+        requires { (fits.Roomy self) × (row.weight ≤ max_weight) × (row.position ≤ ceiling) }
+        ensures { result ≡ looks.counting self row.weight row.position }
+    {
+        Seen {
+            weights: self.weights + row.weight,
+            moments: self.moments + row.weight * row.position,
+            ..self
+        }
+    }
+
+    // An asking row bids once V has reached `from`, the position at which it may be served. The caller says which that is: the opening.
+    #[tactic(auto, unfolding(crate::specs::Looks::seen_bidding, crate::specs::Order::bid_of))]
+    fn bidding_from(self, from: u64, at: u64, q: Request, row: Row, gauge: Gauge) -> Seen
+        requires { fits.Bidding q from }
+        ensures { result ≡ looks.seen_bidding gauge.terms gauge.time.total gauge.time.sum self at q from row.weight row.position }
+    {
+        if !gauge.time.reached(from) {
+            return self;
+        }
         let bid = Bid {
-            deadline: q.deadline(weight),
-            position,
+            deadline: q.deadline(row.weight),
+            position: row.position,
         };
-        return bidding(seen, at, bid, terms);
+        self.bidding(First { queue: at, bid }, gauge.terms)
     }
-    seen
-}
 
-fn seen_asking(
-    seen: Seen,
-    at: u64,
-    q: Request,
-    weight: u64,
-    position: u64,
-    total: u64,
-    sum: u64,
-    terms: Terms,
-) -> Seen
-    requires { (fits.Roomy seen) × (total ≤ max_total) }
-    ensures { result ≡ looks.seen_asking terms total sum seen at q weight position }
-{
-    if !in_range(weight, position) {
-        return faulted(seen);
-    }
-    if !request_orderly(q, weight, position, step_of(weight)) {
-        return faulted(seen);
-    }
-    let counted = counting(seen, weight, position);
-    seen_bidding(
-        counted, at, q, q.opening, weight, position, total, sum, terms,
-    )
-}
-
-pub fn seen_after(seen: Seen, at: u64, row: Row, total: u64, sum: u64, terms: Terms) -> Seen
-    requires { (fits.Roomy seen) × (total ≤ max_total) }
-    ensures { result ≡ looks.seen_after terms total sum seen at row }
-{
-    let weight = row.weight;
-    let position = row.position;
-    let state = row.state;
-    match state {
-        State::Free => seen_free(seen, weight, position),
-        State::Going => seen_going(seen, weight, position, total, sum),
-        State::Asking(q) => seen_asking(seen, at, q, weight, position, total, sum, terms),
+    // A row that may be served: the first of all so far, or not.
+    #[tactic(auto, unfolding(crate::specs::Looks::bidding, crate::specs::Looks::leads))]
+    fn bidding(self, new: First, terms: Terms) -> Seen
+        ensures { result ≡ looks.bidding terms self new }
+    {
+        match self.first {
+            Some(best) if !goes_before(terms, new.bid, best.bid) => self,
+            _ => Seen {
+                first: Some(new),
+                ..self
+            },
+        }
     }
 }

@@ -1,6 +1,7 @@
 // The tests of a row and of its request, and the sums that a row is part of.
-ghost use Rattle.std.specs.Prelude.{◌≡◌, ◌+◌, ◌-◌, ◌≤◌, min};
-ghost use Rattle.rows.specs.Numbers.{ceiling, step_of};
+ghost use Rattle.std.specs.Prelude.{◌≡◌, ◌+◌, ◌-◌, ◌≤◌, ◌<◌, IfSome, IfNone};
+ghost use Rattle.rows.specs.Looks.{beyond};
+ghost use Rattle.rows.specs.Numbers.{ceiling, max_total, step_of};
 ghost use Rattle.rows.specs.Row.{is_asking, is_free, moment_in};
 ghost use Rattle.rows.specs.Orderly as orderly;
 ghost use Rattle.rows.specs.Fits as fits;
@@ -9,121 +10,113 @@ ghost use Rattle.rows.specs.Virtual as virtual;
 use crate::{Request, Row, Standing, State};
 
 // Outside a range whose ends belong to it.
+#[tactic(auto, unfolding(crate::specs::Orderly::outside))]
 pub fn outside(n: u64, low: u64, high: u64) -> bool
     ensures { result ≡ orderly.outside low high n }
 {
-    n < low || high < n
+    !(low..=high).contains(&n)
 }
 
-pub fn lesser(a: u64, b: u64) -> u64
-    ensures { result ≡ min a b }
-{
-    if a < b {
-        return a;
-    }
-    b
+// V = A / W: W is total, and A is sum. It is looked at only where W is no more than 64 rows can weigh, so that a product with a position fits.
+#[derive(Clone, Copy)]
+pub struct VirtualTime {
+    pub total: u64,
+    pub sum: u64,
+    ghost light: { total ≤ max_total },
 }
 
-// Where a position stands to V = A / W, by the cross product. Every test against V is this one. The units are those that V has yet to rise: where they
-// are not looked at, the built program does not divide.
-#[tactic(auto, using(crate::proofs::Virtual::is_behind, crate::proofs::Virtual::is_level))]
-pub fn stands(position: u64, total: u64, sum: u64) -> Standing
-    requires { fits.Crossing position total }
-    ensures { result ≡ virtual.standing_at position total sum }
-{
-    let across = position * total;
-    if across < sum {
-        return Standing::Behind;
+impl VirtualTime {
+    // None of a table that weighs more than its rows can.
+    pub fn of(total: u64, sum: u64) -> Option<VirtualTime>
+        ensures some { IfSome result (λ v. (v.total ≡ total) × (v.sum ≡ sum)) }
+        ensures none { IfNone result (max_total < total) }
+    {
+        if total <= crate::MAX_TOTAL {
+            Some(VirtualTime { total, sum })
+        } else {
+            None
+        }
     }
-    if across == sum {
-        return Standing::Level;
+
+    // Where a position stands, by the cross product. Every test against V is this one. The units are those that V has yet to rise: where they are not
+    // looked at, the built program does not divide.
+    #[tactic(auto, using(crate::proofs::Virtual::standing))]
+    pub fn stands(self, position: u64) -> Standing
+        requires { position ≤ beyond }
+        ensures { result ≡ virtual.standing_at position self.total self.sum }
+    {
+        let total = self.total;
+        let across = position * total;
+        if across < self.sum {
+            return Standing::Behind;
+        }
+        if across == self.sum {
+            return Standing::Level;
+        }
+        let units = (across - self.sum + (total - 1)) / total;
+        Standing::Ahead { units }
     }
-    let units = (across - sum + (total - 1)) / total;
-    Standing::Ahead { units }
+
+    // V has reached this position: it is not ahead.
+    #[tactic(auto, unfolding(crate::specs::Virtual::reached))]
+    pub fn reached(self, position: u64) -> bool
+        requires { position ≤ beyond }
+        ensures { result ≡ virtual.reached position self.total self.sum }
+    {
+        match self.stands(position) {
+            Standing::Behind => true,
+            Standing::Level => true,
+            Standing::Ahead { .. } => false,
+        }
+    }
 }
 
-// V has reached this position: it is not ahead.
-pub fn reached(position: u64, total: u64, sum: u64) -> bool
-    requires { fits.Crossing position total }
-    ensures { result ≡ virtual.reached position total sum }
-{
-    match stands(position, total, sum) {
-        Standing::Behind => true,
-        Standing::Level => true,
-        Standing::Ahead { .. } => false,
-    }
-}
-
+#[tactic(auto, unfolding(crate::specs::Orderly::in_range, crate::specs::Orderly::outside, laws::specs::Lists::every))]
 pub fn in_range(weight: u64, position: u64) -> bool
     ensures { result ≡ orderly.in_range weight position }
 {
-    if outside(weight, 1, crate::MAX_WEIGHT) {
-        return false;
-    }
-    position <= crate::CEILING
+    !outside(weight, 1, crate::MAX_WEIGHT) && position <= crate::CEILING
 }
 
 // The ranges first, so that the product fits. The step is that of the weight.
+#[tactic(auto, using(crate::proofs::Steps::travel_most, crate::proofs::Orderly::within_high), unfolding(crate::specs::Orderly::orderly_request, crate::specs::Orderly::outside, crate::specs::Row::position_of, laws::specs::Lists::every))]
 pub fn request_orderly(q: Request, weight: u64, position: u64, step: u64) -> bool
     requires { (position ≤ ceiling) × (step ≡ step_of weight) }
     ensures { result ≡ orderly.orderly_request weight position q }
 {
-    let opening = q.opening;
-    let length = q.length;
-    let served = q.served;
-    let next = q.next;
-    if outside(length, 1, crate::MAX_LENGTH) {
+    if outside(q.length, 1, crate::MAX_LENGTH)
+        || outside(q.next, 1, crate::MAX_LENGTH)
+        || q.length <= q.served
+        || position < q.opening
+    {
         return false;
     }
-    if outside(next, 1, crate::MAX_LENGTH) {
-        return false;
-    }
-    if length <= served {
-        return false;
-    }
-    if position < opening {
-        return false;
-    }
-    opening + served * step == position
+    q.opening + q.served * step == position
 }
 
 pub fn is_free(row: Row) -> bool
     ensures { result ≡ is_free row.state }
 {
-    let state = row.state;
-    match state {
-        State::Free => true,
-        State::Going => false,
-        State::Asking(_) => false,
-    }
+    matches!(row.state, State::Free)
 }
 
 pub fn is_asking(row: Row) -> bool
     ensures { result ≡ is_asking row.state }
 {
-    let state = row.state;
-    match state {
-        State::Free => false,
-        State::Going => false,
-        State::Asking(_) => true,
-    }
+    matches!(row.state, State::Asking(_))
 }
 
 // A going row that V has reached is to be released.
-pub fn is_ready(row: Row, total: u64, sum: u64) -> bool
-    requires { fits.Crossing row.position total }
-    ensures { result ≡ virtual.ready_at total sum row }
+#[tactic(auto, unfolding(crate::specs::Virtual::ready_at))]
+pub fn is_ready(row: Row, time: VirtualTime) -> bool
+    requires { row.position ≤ beyond }
+    ensures { result ≡ virtual.ready_at time.total time.sum row }
 {
-    let position = row.position;
-    let state = row.state;
-    match state {
-        State::Free => false,
-        State::Going => reached(position, total, sum),
-        State::Asking(_) => false,
-    }
+    matches!(row.state, State::Going) && time.reached(row.position)
 }
 
 // A row's part in A.
+#[tactic(auto, using(crate::proofs::Shares::orderly_moment, crate::proofs::Shares::moment_small))]
 pub fn moment(row: Row) -> u64
     requires { orderly.OrderlyRow row }
     ensures { result ≡ moment_in row }

@@ -8,6 +8,7 @@ ghost use Rattle.rows.specs.Row.{deadline_of, charged_to};
 use crate::{Request, Row, State, Terms, step_of};
 
 // A length of 0 stands for the default that the table was made with.
+#[tactic(auto, unfolding(crate::specs::Numbers::length_meant))]
 pub fn length_meant(terms: Terms, length: u64) -> u64
     ensures { result ≡ length_meant terms length }
 {
@@ -18,6 +19,7 @@ pub fn length_meant(terms: Terms, length: u64) -> u64
 }
 
 // A request that opens where its queue stands.
+#[tactic(auto, unfolding(crate::specs::Requests::opened))]
 pub fn opened(position: u64, length: u64) -> Request
     ensures { result ≡ requests.opened position length }
 {
@@ -31,6 +33,7 @@ pub fn opened(position: u64, length: u64) -> Request
 
 impl Request {
     // Equation 8 of the report, V(d) = V(e) + r / w, in position units.
+    #[tactic(auto, using(crate::proofs::Steps::travel_most), unfolding(crate::specs::Row::deadline_of))]
     pub fn deadline(self, weight: u64) -> u64
         requires { (self.opening ≤ ceiling) × (self.length ≤ max_length) }
         ensures { result ≡ deadline_of weight self }
@@ -40,6 +43,7 @@ impl Request {
 }
 
 // Where a queue stands after some ticks more: equation 7 of the report, one step a tick.
+#[tactic(auto, using(crate::proofs::Steps::travel_most), unfolding(crate::specs::Row::charged_to))]
 pub fn charged_to(weight: u64, position: u64, used: u64) -> u64
     requires { (position ≤ ceiling) × (used ≤ max_length) }
     ensures { result ≡ charged_to weight position used }
@@ -47,78 +51,46 @@ pub fn charged_to(weight: u64, position: u64, used: u64) -> u64
     position + used * step_of(weight)
 }
 
+#[tactic(auto, unfolding(crate::specs::Requests::row_next_set))]
 pub fn next_set(row: Row, length: u64) -> Row
     ensures { result ≡ requests.row_next_set row length }
 {
-    let weight = row.weight;
-    let position = row.position;
-    let state = row.state;
-    match state {
-        State::Free => row,
-        State::Going => row,
-        State::Asking(q) => {
-            let request = Request {
-                opening: q.opening,
-                length: q.length,
-                served: q.served,
-                next: length,
-            };
-            Row {
-                weight,
-                position,
-                state: State::Asking(request),
-            }
-        }
+    let State::Asking(q) = row.state else {
+        return row;
+    };
+    Row {
+        state: State::Asking(Request { next: length, ..q }),
+        ..row
     }
 }
 
 // A request used up or ended early is followed by the next, at the position that the queue has come to.
+#[tactic(auto, unfolding(crate::specs::Requests::served_to))]
 pub fn served(q: Request, position: u64, used: u64, early: bool) -> Request
     requires { q.served + used < 2 ^ 64 }
     ensures { result ≡ requests.served_to q position used early }
 {
-    let following = opened(position, q.next);
-    let length = q.length;
     let ticks = q.served + used;
-    if early {
-        return following;
-    }
-    if length <= ticks {
-        return following;
-    }
-    Request {
-        opening: q.opening,
-        length,
-        served: ticks,
-        next: q.next,
+    if early || q.length <= ticks {
+        opened(position, q.next)
+    } else {
+        Request { served: ticks, ..q }
     }
 }
 
+#[tactic(auto, unfolding(crate::specs::Requests::charged))]
 pub fn charged(row: Row, used: u64, early: bool) -> Row
     requires { fits.Charging row used }
     ensures { result ≡ requests.charged row used early }
 {
-    let weight = row.weight;
-    let state = row.state;
-    let position = charged_to(weight, row.position, used);
-    match state {
-        State::Free => Row {
-            weight,
-            position,
-            state: State::Free,
-        },
-        State::Going => Row {
-            weight,
-            position,
-            state: State::Going,
-        },
-        State::Asking(q) => {
-            let request = served(q, position, used, early);
-            Row {
-                weight,
-                position,
-                state: State::Asking(request),
-            }
-        }
+    let position = charged_to(row.weight, row.position, used);
+    let state = match row.state {
+        State::Asking(q) => State::Asking(served(q, position, used, early)),
+        other => other,
+    };
+    Row {
+        position,
+        state,
+        ..row
     }
 }

@@ -6,7 +6,6 @@ use mathlib.Core.Option.{Option, none, some}
 use Prim.Native.Nat.{ℕ, zero, suc, ◌≤◌, ◌<◌}
 use native.Mathlib.Omega.{arith}
 use lib.Dec.{eqb}
-use lib.IntN.{ℤ}
 use lib.ListN.{length}
 use borrow.Author.Tests.{leb-false, ltb-false, eqb-true, eqb-false, not-false}
 use Rattle.laws.proofs.Tests.{and_left, and_right}
@@ -20,7 +19,7 @@ use Rattle.head.specs.Head.{is_empty}
 use Rattle.head.specs.Refusals.{Check, ◌when◌, first_refusal, queue_outside, length_outside, not_holder, row_taken, not_asking, lag_below, ticks_outside, may_use, checks_for}
 use Rattle.share.specs.declared.Table.{Table}
 use Rattle.share.specs.Asks.{Joins, Leaves, Reweights, Lengthens, Grants, Returns}
-use Rattle.share.specs.Calls.{checks_of, release_checks, lag_checks, standing_checks}
+use Rattle.share.specs.Calls.{checks_of, release_checks, standing_checks}
 use Rattle.share.specs.Release.{done, released}
 use Rattle.share.specs.Sound.{Sound, sound}
 use Rattle.share.specs.Table.{row}
@@ -123,13 +122,6 @@ grant_accepted t e =
 pub nothing_to_free : (t : Table) → first_refusal (release_checks t) ≡ none → t ≡ released t
 unfolding release_checks
 nothing_to_free t e = let is = is_sound t (fails_at (release_checks t) e 0) in frees_released (weighed is.orderly_table) (done is.no_one_ready)
-
--- a lag report has a sound table and a list of 64 entries or more
-pub lags_accepted : (t : Table) (given : List ℤ) → first_refusal (lag_checks t given) ≡ none → Sound t × (queues ≤ length given)
-unfolding lag_checks
-lags_accepted t given e =
-    let fails = fails_at (lag_checks t given) e in
-    (is_sound t (fails 0), ltb-false (length given) queues (fails 1))
 
 -- where a row stands is told of one that is there, in a sound table
 pub standing_accepted : (t : Table) (queue : ℕ) → first_refusal (standing_checks t queue) ≡ none → Sound t × (queue < queues) × (is_free (row t queue).state ≡ false)

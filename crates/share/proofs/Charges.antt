@@ -2,31 +2,27 @@
 -- ticks used, and the row that comes of it can be placed.
 use mathlib.Core.Path.{◌≡◌, refl, ap, subst}
 use mathlib.Core.Bool.{Bool, false}
-use Prim.Native.Nat.{ℕ, ◌+◌, ◌-◌, ◌≤◌, ◌<◌}
+use Prim.Native.Nat.{ℕ, ◌+◌, ◌≤◌, ◌<◌}
 use native.Mathlib.Omega.{arith}
-use lib.ListN.{set}
 use Rattle.rows.specs.declared.Request.{Request}
 use Rattle.rows.specs.declared.Row.{Row}
 use Rattle.rows.specs.declared.State.{State}
 use Rattle.rows.specs.declared.State.TheVariants.{Free, Going, Asking}
 use Rattle.rows.specs.declared.Terms.{Terms}
 use Rattle.rows.specs.Numbers.{ceiling}
-use Rattle.rows.specs.Row.{is_going, weight_in, moment_in, charged_to}
+use Rattle.rows.specs.Row.{is_going, charged_to}
 use Rattle.rows.specs.Orderly.{OrderlyAs, slice_most}
 use Rattle.rows.specs.Fits.{Charging, served_as}
 use Rattle.rows.specs.Requests.{charged}
 use Rattle.rows.proofs.Requests.{charge_high, charged_orderly}
-use Rattle.rows.proofs.Shares.{orderly_weight, position_small}
+use Rattle.rows.proofs.Shares.{position_small}
 use Rattle.head.specs.declared.Head.{Head}
-use Rattle.head.specs.Head.{sliced, summed}
-use Rattle.head.proofs.Rest.{rest_others}
+use Rattle.head.specs.Head.{sliced}
 use Rattle.head.specs.Slice.{OrderlyHolder, HeldBy, OrderlySlice}
 use Rattle.share.specs.declared.Table.{Table}
 use Rattle.share.specs.Asks.{Placing, Ahead, Returns}
 use Rattle.share.specs.Sound.{held, Orderly}
-use Rattle.share.specs.Table.{row, placed, with_slice}
-use Rattle.share.proofs.Placed.{weight_within}
-use Rattle.share.proofs.Totals.{sums_true}
+use Rattle.share.specs.Table.{row, with_slice}
 
 -- the slice taken in: an orderly table without one
 pub taken_in : (t : Table) → Orderly t → Orderly (with_slice t false 0 0)
@@ -74,10 +70,6 @@ charge_within t queue used r =
     omega (arith, r.within, h.orderly_holder.slice_high, slice_within t.head.terms h.request as_asking.1.served_less) in
     omega (arith, charge_high w (row t queue).position used h.request as_asking.1 fits, h.orderly_holder.deadline_high)
 
-charged_weight : (r : Row) (used : ℕ) (early : Bool) → (charged r used early).weight ≡ r.weight
-unfolding charged
-charged_weight r used early = refl
-
 module _ (t : Table) (queue used : ℕ) (r : Returns t queue used) where
   slice_limit : (terms : Terms) (q : Request) → slice_most terms q ≤ terms.limit
   unfolding slice_most
@@ -107,33 +99,6 @@ module _ (t : Table) (queue used : ℕ) (r : Returns t queue used) where
           inside = r.inside;
           new = charged_orderly (row t queue) h.request used early h.state_asking (o.each queue) (charge_within t queue used r);
         }
-
-    same_total : t.head.total + weight_in (charged (row t queue) used early) - weight_in (row t queue) ≡ t.head.total
-    same_total =
-        omega (
-          arith,
-          orderly_weight (row t queue) (r.was_sound.orderly_table.each queue),
-          orderly_weight (charged (row t queue) used early) return_places.new,
-          charged_weight (row t queue) used early,
-        )
-
-    present : 0 < t.head.total
-    present =
-        let o = r.was_sound.orderly_table in
-        let h = holding t queue used r in
-        let as_asking : OrderlyAs (Asking h.request) (row t queue).weight (row t queue).position =
-        subst (λ (s : State). OrderlyAs s (row t queue).weight (row t queue).position) h.state_asking (o.each queue) in
-        omega (
-          arith,
-          weight_within t queue (sums_true o) (omega (arith, o.one_each, r.inside)),
-          orderly_weight (row t queue) (o.each queue),
-          as_asking.0.weight_low,
-        )
-
-    -- the table changed in place: the weight stays, so W does; and with rows present there is no resting position
-    pub in_place : (sum : ℕ) → sum ≡ t.head.sum + moment_in (charged (row t queue) used early) - moment_in (row t queue) → record { rows = set t.rows queue (charged (row t queue) used early); head = record { total = t.head.total; sum = sum; resting = t.head.resting; terms = t.head.terms; out = false; holder = 0; ticks = 0 } } ≡ placed (with_slice t false 0 0) queue (charged (row t queue) used early)
-    unfolding placed summed with_slice sliced row
-    in_place sum e = rw (e, same_total, rest_others t.head.total (row t queue).position present, r.was_sound.orderly_table.rest.only_empty present) refl
 
     -- it goes on asking
     pub return_asks : is_going (charged (row t queue) used early).state ≡ false

@@ -10,8 +10,9 @@ use Rattle.share.specs.Asks.{Releasing}
 use Rattle.share.specs.Release.{freed, Frees, released}
 use Rattle.share.specs.Sound.{Ready, Calm}
 use Rattle.share.proofs.Keeps.{freed_keeps, still_freed}
-use Rattle.share.proofs.Release.{any_first, released_frees, freed_less, ready_inside}
-use Rattle.share.proofs.Totals.{weighed}
+use Rattle.share.proofs.Release.{any_first, released_frees, frees_released, same_end, freed_less, ready_inside}
+use Rattle.share.proofs.Sound.{ready_says, says_ready}
+use Rattle.share.proofs.Totals.{total_most, weighed}
 
 -- t₀ is the table that the pass began with, and the rows from i on are passed
 pub record Passing (t₀ t : Table) (i : ℕ) : Type 0 where
@@ -63,3 +64,8 @@ pass_leaves t₀ t i inv some not_ready =
 pub pass_over : (t₀ t : Table) → Passing t₀ t 0 → (t.head.total < t₀.head.total) ⊎ Calm t
 pass_over t₀ t inv =
     ⊎_elim (λ fell. ◌⊎◌.inl fell) (λ same. ◌⊎◌.inr (subst⁻¹ Calm same.0 (λ j r. same.1 j (omega arith) r))) inv.so_far
+
+-- what a pass goes by, row by row, and what the release goes by, pass by pass
+pub ruleset passing = (pass_begins, pass_frees, pass_leaves, pass_over, total_most, ready_says, says_ready)
+
+pub ruleset releasing = (total_most, weighed, released_frees, frees_released, same_end)

@@ -13,7 +13,6 @@ use Rattle.share.specs.declared.Table.{Table}
 use Rattle.share.specs.Asks.{Placing, Ahead, Settling, Leaves}
 use Rattle.share.specs.Release.{freed, Frees, done, one}
 use Rattle.share.specs.Sound.{Calm}
-use Rattle.rows.specs.Fits.{Crossing}
 use Rattle.rows.proofs.Virtual.{yes_reached}
 use Rattle.share.specs.Table.{row, AtMostV, placed}
 use Rattle.share.specs.Events.{leaving, left}
@@ -21,12 +20,8 @@ use Rattle.share.proofs.Keeps.{placed_keeps}
 use Rattle.share.proofs.Departing.{placed_out}
 use Rattle.share.proofs.Placed.{placed_same, placed_other}
 use Rattle.share.proofs.Release.{freed_same, freed_other, released_frees}
-use Rattle.share.proofs.Totals.{total_most}
 
 module _ (t : Table) (nearest : ℕ) (s : Settling t nearest) where
-  pub settling_crosses : Crossing nearest t.head.total
-  settling_crosses = record { position_high = s.ahead.nearest_high; total_high = total_most t s.orderly }
-
   pub settling_calm : t.head.sum < nearest * t.head.total → Calm t
   settling_calm h i r = omega (arith, r.level, mul-le-mul_right t.head.total (s.ahead.before i r.going))
 

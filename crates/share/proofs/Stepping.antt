@@ -7,33 +7,28 @@ use mathlib.Core.Bool.{Bool, true, false, not}
 use mathlib.Core.Logic.{⊎_elim}
 use Prim.Native.Nat.{ℕ, ◌<◌}
 use native.Mathlib.Omega.{arith}
-use lib.IntN.{ℤ}
 use borrow.Author.Tests.{eq-eqb, not-false}
-use Rattle.laws.proofs.Tests.{either, le_or_lt}
+use Rattle.std.specs.Prelude.{Result, Ok, Err, Option, Some, None, is_some, unwrap_or, ⊤}
+use Rattle.laws.proofs.Tests.{clash, le_or_lt}
 use Rattle.rows.specs.declared.Row.{Row}
-use Rattle.rows.specs.Looks.{Place}
 use Rattle.head.specs.declared.Event.{Event}
 use Rattle.head.specs.declared.Event.TheVariants.{Fresh, Join, Leave, Reweight, Length, Grant, Return}
 use Rattle.head.specs.declared.Refusal.{Refusal}
 use Rattle.head.specs.declared.Refusal.TheVariants.{Unsound, SliceOut, TableEmpty, CeilingPassed}
-use Rattle.head.specs.declared.judging.Verdict.{Verdict}
-use Rattle.head.specs.declared.judging.Verdict.TheVariants.{Fine, Refused}
 use Rattle.head.specs.declared.surveying.Survey.{Survey}
 use Rattle.head.specs.Head.{concerns, is_empty}
-use Rattle.head.specs.Refusals.{Check, ◌when◌, first_refusal, verdict_of, checks_for, queue_outside, ceiling_passed}
+use Rattle.head.specs.Refusals.{Check, ◌when◌, first_refusal, verdict_of, checks_for, verdict_for, ceiling_passed}
 use Rattle.head.proofs.Verdicts.{refused_some, fine_none}
 use Rattle.share.specs.declared.Reply.{Reply}
 use Rattle.share.specs.declared.Table.{Table}
 use Rattle.share.specs.Asks.{Ahead}
-use Rattle.share.specs.Calls.{call, refused, checks_of, lag_checks, lag_list}
+use Rattle.share.specs.Calls.{call, refused, checks_of, done_by, step}
 use Rattle.share.specs.Events.{chosen}
-use Rattle.share.specs.LagList.{lags_into}
-use Rattle.share.specs.Sound.{Sound, sound}
+use Rattle.share.specs.Sound.{sound}
 use Rattle.share.specs.Table.{row}
-use Rattle.share.specs.Walks.{Surveyed}
-use Rattle.share.proofs.Accepted.{is_inside}
-use Rattle.share.proofs.Mean.{chosen_inside}
-use Rattle.share.proofs.Sound.{sound_says, says_sound}
+use Rattle.share.proofs.Accepted.{grant_accepted}
+use Rattle.share.proofs.Sound.{says_sound}
+use Rattle.share.specs.Walks.{Surveyed, Permitted}
 
 -- the shape that all calls share: a refusal that applies is handed out with the given table, and with none the event is done
 pub call_refused : (checks : List Check) (t : Table) (event : Reply) (why : Refusal) → first_refusal checks ≡ some why → call checks t event ≡ refused t why
@@ -44,29 +39,22 @@ pub call_accepted : (checks : List Check) (t : Table) (event : Reply) → first_
 unfolding call
 call_accepted checks t event e = rw e refl
 
-module _ (checks : List Check) (v : Verdict) (tested : v ≡ verdict_of (first_refusal checks)) where
-  pub none_applies_to : v ≡ Fine → first_refusal checks ≡ none
+module _ (checks : List Check) (v : Result ⊤ Refusal) (tested : v ≡ verdict_of (first_refusal checks)) where
+  pub none_applies_to : v ≡ Ok tt → first_refusal checks ≡ none
   none_applies_to e = fine_none (first_refusal checks) (sym tested ∙ e)
 
-  pub verdict_refused : (why : Refusal) → v ≡ Refused why → (t : Table) (event : Reply) → refused t why ≡ call checks t event
+  pub verdict_refused : (why : Refusal) → v ≡ Err why → (t : Table) (event : Reply) → refused t why ≡ call checks t event
   verdict_refused why e t event = sym (call_refused checks t event why (refused_some (first_refusal checks) why (sym tested ∙ e)))
 
-  pub verdict_fine : v ≡ Fine → (t : Table) (event : Reply) → event ≡ call checks t event
-  verdict_fine e t event = sym (call_accepted checks t event (none_applies_to e))
+-- the queue that a survey names, and a position that no going row stands before; 0 where it names none or there is no survey
+abbrev pub told_in : Option Survey → Survey
+told_in survey = unwrap_or survey (record { chosen = None; nearest = 0 })
 
--- the lent list: untouched by a refusal, and else written
-module _ (t : Table) (given : List ℤ) (v : Verdict) (tested : v ≡ verdict_of (first_refusal (lag_checks t given))) where
-  pub list_refused : (why : Refusal) → v ≡ Refused why → given ≡ lag_list t given
-  unfolding lag_list
-  list_refused why e = rw (refused_some (first_refusal (lag_checks t given)) why (sym tested ∙ e)) refl
+abbrev pub named_in : Option Survey → ℕ
+named_in survey = unwrap_or (told_in survey).chosen 0
 
-  pub list_written : v ≡ Fine → lags_into t given ≡ lag_list t given
-  unfolding lag_list
-  list_written e = rw (fine_none (first_refusal (lag_checks t given)) (sym tested ∙ e)) refl
-
--- what the survey of a sound table tells of its going rows
-pub told_ahead : (t : Table) (s : Survey) → Surveyed t s → Sound t → Ahead t s.nearest
-told_ahead t s h is = let told = h.told (says_sound t is) in record { nearest_high = told.nearest_high; before = told.nearest_told }
+abbrev pub nearest_in : Option Survey → ℕ
+nearest_in survey = (told_in survey).nearest
 
 -- what is asked of the chosen row does not matter where nobody is chosen
 grant_row : (t : Table) (u : Bool) (r : Row) → (u ≡ false → 0 < t.head.total → r ≡ row t (chosen t)) → (out : Bool) → first_refusal ((Unsound when u) ∷ (SliceOut when out) ∷ (TableEmpty when is_empty t.head) ∷ (CeilingPassed when ceiling_passed r) ∷ []) ≡ first_refusal ((Unsound when u) ∷ (SliceOut when out) ∷ (TableEmpty when is_empty t.head) ∷ (CeilingPassed when ceiling_passed (row t (chosen t))) ∷ [])
@@ -78,29 +66,60 @@ grant_row t false r its out =
     (λ none. rw (eq-eqb t.head.total 0 (omega arith)) refl)
     (le_or_lt 1 t.head.total)
 
-module _ (t : Table) (s : Survey) (surveyed : Surveyed t s) (at : ℕ) where
-  -- the row that a grant would go to
-  its_chosen : Place s.queue at → sound t ≡ true → 0 < t.head.total → row t at ≡ row t (chosen t)
-  its_chosen place is present =
-      let told = (surveyed.told is).queue_told present in
-      ap (row t) (place.same (rw told (chosen_inside t (sound_says t is) present)) ∙ told)
+module _ (t : Table) where
+  -- no going row of any table stands before 0
+  pub survey_ahead : (survey : Option Survey) → Surveyed t survey → Ahead t (nearest_in survey)
+  survey_ahead None h = record { nearest_high = omega arith; before = λ i g. omega arith }
+  survey_ahead (Some s) h = let told = h.told s refl in record { nearest_high = told.nearest_high; before = told.nearest_told }
 
-  -- nor what is asked of the row that an event names where there is no such row
-  named_row : (queue : ℕ) → Place queue at → (checks : Row → List Check) → (queue_outside queue ≡ true → first_refusal (checks (row t at)) ≡ first_refusal (checks (row t queue))) → first_refusal (checks (row t at)) ≡ first_refusal (checks (row t queue))
-  named_row queue place checks outside =
-      ⊎_elim outside (λ inside. ap (λ (i : ℕ). first_refusal (checks (row t i))) (place.same (is_inside queue inside))) (either (queue_outside queue))
+  -- the queue that a grant would go to
+  pub names_chosen : (survey : Option Survey) → Surveyed t survey → sound t ≡ true → 0 < t.head.total → named_in survey ≡ chosen t
+  names_chosen None h is present = absurd (clash is (sym h.sound_told))
+  names_chosen (Some s) h is present = ap (λ (o : Option ℕ). unwrap_or o 0) ((h.told s refl).chosen_told present)
 
-  by_row : (e : Event) → Place (concerns s.queue e) at → first_refusal (checks_for (sound t) t.head (row t at) e) ≡ first_refusal (checks_for (sound t) t.head (row t (concerns (chosen t) e)) e)
-  unfolding checks_for
-  by_row (Fresh terms) place = refl
-  by_row (Join queue weight length) place = named_row queue place (λ r. checks_for (sound t) t.head r (Join queue weight length)) (λ out. rw out refl)
-  by_row (Leave queue) place = named_row queue place (λ r. checks_for (sound t) t.head r (Leave queue)) (λ out. rw out refl)
-  by_row (Reweight queue weight length) place = named_row queue place (λ r. checks_for (sound t) t.head r (Reweight queue weight length)) (λ out. rw out refl)
-  by_row (Length queue length) place = named_row queue place (λ r. checks_for (sound t) t.head r (Length queue length)) (λ out. rw out refl)
-  by_row Grant place = grant_row t (not (sound t)) (row t at) (λ u present. its_chosen place (not-false _ u) present) t.head.out
-  by_row (Return queue used early) place = refl
+  module _ (survey : Option Survey) (h : Surveyed t survey) where
+    by_row : (e : Event) → first_refusal (checks_for (sound t) t.head (row t (concerns (named_in survey) e)) e) ≡ first_refusal (checks_for (sound t) t.head (row t (concerns (chosen t) e)) e)
+    unfolding checks_for
+    by_row (Fresh terms) = refl
+    by_row (Join queue weight length) = refl
+    by_row (Leave queue) = refl
+    by_row (Reweight queue weight length) = refl
+    by_row (Length queue length) = refl
+    by_row Grant = grant_row t (not (sound t)) (row t (named_in survey)) (λ u present. ap (row t) (names_chosen survey h (not-false _ u) present)) t.head.out
+    by_row (Return queue used early) = refl
 
-  -- what the code asks, by the survey's word, is what the definition asks
-  pub same_checks : (e : Event) → Place (concerns s.queue e) at → first_refusal (checks_for s.sound t.head (row t at) e) ≡ first_refusal (checks_of t e)
-  unfolding checks_of
-  same_checks e place = ap (λ (b : Bool). first_refusal (checks_for b t.head (row t at) e)) surveyed.sound_told ∙ by_row e place
+    -- what the code asks, by the survey's word, is what the definition asks
+    pub same_checks : (e : Event) → first_refusal (checks_for (is_some survey) t.head (row t (concerns (named_in survey) e)) e) ≡ first_refusal (checks_of t e)
+    unfolding checks_of
+    same_checks e = ap (λ (b : Bool). first_refusal (checks_for b t.head (row t (concerns (named_in survey) e)) e)) h.sound_told ∙ by_row e
+
+  -- from the code's verdict, given by the survey's word: what the call answers
+  pub verdict_read : (survey : Option Survey) (asked : Event) {is_told : Bool} {r : Row} {queue named : ℕ} {told : Survey} {v : Result ⊤ Refusal} → v ≡ verdict_for is_told t.head r asked → is_told ≡ is_some survey → r ≡ row t queue → queue ≡ concerns named asked → named ≡ unwrap_or told.chosen 0 → told ≡ told_in survey → v ≡ verdict_for (is_some survey) t.head (row t (concerns (named_in survey) asked)) asked
+  verdict_read survey asked judged is read place name told = judged ∙ rw (is, read, place, name, told) refl
+
+  module _ (survey : Option Survey) (h : Surveyed t survey) (asked : Event) (v : Result ⊤ Refusal) (judged : v ≡ verdict_for (is_some survey) t.head (row t (concerns (named_in survey) asked)) asked) where
+    tested : v ≡ verdict_of (first_refusal (checks_of t asked))
+    unfolding verdict_for
+    tested = judged ∙ ap verdict_of (same_checks survey h asked)
+
+    pub step_refused : (why : Refusal) → v ≡ Err why → refused t why ≡ step t asked
+    unfolding step
+    step_refused why e = verdict_refused (checks_of t asked) v tested why e t _
+
+    pub nothing_against : v ≡ Ok tt → first_refusal (checks_of t asked) ≡ none
+    nothing_against fine = none_applies_to (checks_of t asked) v tested fine
+
+    -- and a grant goes to the queue that is chosen
+    pub named_chosen : v ≡ Ok tt → asked ≡ Grant → named_in survey ≡ chosen t
+    named_chosen fine is =
+        let g = grant_accepted t (ap (λ (x : Event). first_refusal (checks_of t x)) (sym is) ∙ nothing_against fine) in
+        names_chosen survey h (says_sound t g.was_sound) g.present
+
+-- an event that nothing speaks against, by what kind of event it is: it is done
+module _ (t : Table) {asked event : Event} {queue nearest : ℕ} (allowed : Permitted t asked queue nearest) (is : asked ≡ event) where
+  pub allowed_as : first_refusal (checks_of t event) ≡ none
+  allowed_as = ap (λ (x : Event). first_refusal (checks_of t x)) (sym is) ∙ allowed.nothing_against
+
+  pub step_allowed : done_by t event ≡ step t asked
+  unfolding step
+  step_allowed = ap (done_by t) (sym is) ∙ sym (call_accepted (checks_of t asked) t (done_by t asked) allowed.nothing_against)

@@ -12,6 +12,7 @@ use Rattle.head.specs.Lag.{lag_of}
 use Rattle.share.specs.declared.Table.{Table}
 use Rattle.share.specs.LagList.{lags_into}
 use Rattle.share.specs.Table.{row}
+use Rattle.share.proofs.Totals.{head_small}
 
 -- the list with its first i entries written, and the others to be
 abbrev pub Writing : Table → List ℤ → ℕ → List ℤ → Type 0
@@ -31,3 +32,6 @@ pub writing_ends : (t : Table) (given : List ℤ) (list : List ℤ) → length t
 writing_ends t given list one_each h =
     sym (take-append-drop 64 list)
     ∙ (rw (drop_of_length-le t.rows {i = 64} (omega arith)) at h)
+
+-- what the report goes by, entry by entry
+pub ruleset writing = (writing_starts, writing_next, writing_ends, head_small)

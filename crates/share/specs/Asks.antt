@@ -1,5 +1,5 @@
 -- What the private functions that carry out an event ask for; the calls have it from the refusals that did not apply.
-use Rattle.std.specs.Prelude.{◌≡◌, true, false, ℕ, ◌≤◌, ◌<◌}
+use Rattle.std.specs.Prelude.{◌≡◌, ◌⊎◌, true, false, ℕ, ◌≤◌, ◌<◌}
 use Rattle.rows.specs.declared.Row.{Row}
 use Rattle.rows.specs.Numbers.{queues, max_weight, max_length}
 use Rattle.rows.specs.Row.{is_free, is_going, is_asking}
@@ -8,7 +8,8 @@ use Rattle.rows.specs.Looks.{beyond}
 use Rattle.head.specs.Refusals.{may_use, ceiling_passed}
 use Rattle.share.specs.declared.Table.{Table}
 use Rattle.share.specs.Table.{row, AtMostV}
-use Rattle.share.specs.Sound.{Orderly, Sound}
+use Rattle.share.specs.Sound.{Orderly, Sound, Calm}
+use Rattle.share.specs.Release.{Frees, released}
 use Rattle.share.specs.Events.{chosen}
 
 pub record Placing (t : Table) (queue : ℕ) (r : Row) : Type 0 where
@@ -69,3 +70,9 @@ pub record Returns (t : Table) (queue used : ℕ) : Type 0 where
   pub held : t.head.out ≡ true
   pub holds : queue ≡ t.head.holder
   pub within : used ≤ may_use t.head.ticks
+
+-- What one pass of the release leaves: what is left to free ends where all of it would, and either W has fallen or nothing is ready.
+pub record PassedOver (t u : Table) : Type 0 where
+  pub releasing : Releasing u
+  pub way : Frees u (released t)
+  pub fallen : (u.head.total < t.head.total) ⊎ Calm u

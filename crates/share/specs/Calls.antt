@@ -1,8 +1,9 @@
 -- What each call answers, refused ones too: the contracts of the public calls say that the code's result is this and nothing else.
-use Rattle.std.specs.Prelude.{Bool, not, List, [], ◌∷◌, ℕ, ltb, ℤ, length}
+use Rattle.std.specs.Prelude.{Bool, not, List, [], ◌∷◌, ℕ, ltb, ℤ, length, Result, Ok, Err}
 use Rattle.std.proofs.Math.Option.{Option, none, some}
 use Rattle.rows.specs.declared.Terms.{Terms}
 use Rattle.rows.specs.Numbers.{queues, least_terms}
+use Rattle.head.specs.declared.Answer.{Answer}
 use Rattle.head.specs.declared.Answer.TheVariants.{Accepted, Granted, Reported, Stands, Refused}
 use Rattle.head.specs.declared.Event.{Event}
 use Rattle.head.specs.declared.Event.TheVariants.{Fresh, Join, Leave, Reweight, Length, Grant, Return}
@@ -31,6 +32,11 @@ refused t why = record { answer = Refused why; table = t }
 abbrev pub accepted : Table → Reply
 accepted t = record { answer = Accepted; table = t }
 
+-- the table handed back beside what was answered
+abbrev pub replied : Table → Result Answer Refusal → Reply
+replied t (Ok answer) = record { answer = answer; table = t }
+replied t (Err why) = refused t why
+
 -- one shape for all calls: the first refusal that applies, or the event
 unfoldable pub call : List Check → Table → Reply → Reply
 call checks t event = unless (first_refusal checks) (refused t) event
@@ -39,6 +45,9 @@ call checks t event = unless (first_refusal checks) (refused t) event
 unfoldable pub checks_of : Table → Event → List Check
 checks_of t e = checks_for (sound t) t.head (row t (concerns (chosen t) e)) e
 
+abbrev pub granted_reply : Table → Reply
+granted_reply t = record { answer = Granted (chosen t) (slice_given t); table = granted t }
+
 -- what it does where nothing of that applies
 abbrev pub done_by : Table → Event → Reply
 done_by t (Fresh terms) = accepted (empty_table terms)
@@ -46,7 +55,7 @@ done_by t (Join queue weight length) = accepted (joined t queue weight length)
 done_by t (Leave queue) = accepted (left t queue)
 done_by t (Reweight queue weight length) = accepted (reweighted t queue weight length)
 done_by t (Length queue length) = accepted (length_set t queue length)
-done_by t Grant = record { answer = Granted (chosen t) (slice_given t); table = granted t }
+done_by t Grant = granted_reply t
 done_by t (Return queue used early) = accepted (returned t queue used early)
 
 -- one step by an event; "a refused `S` keeps the present table"

@@ -1,115 +1,153 @@
-// What an accepted event does to a sound table; a grant and a return are done in `apply` itself. Nothing is refused here: each function asks for what
-// the refusals have settled.
+// What an accepted event does to a sound table, in place. Nothing is refused here: each function asks for what the refusals have settled.
 ghost use Rattle.std.specs.Prelude.{◌≡◌};
 ghost use Rattle.share.specs.Asks as asks;
+ghost use Rattle.share.specs.Calls.{granted_reply};
 ghost use Rattle.share.specs.Events as events;
+ghost use Rattle.share.specs.Events.{chosen};
 ghost use Rattle.share.specs.Release as release;
 ghost use Rattle.share.specs.Table as table;
 
-use crate::Table;
-use rows::{BLANK, Row, State, is_ready, length_meant, lesser, next_set, opened};
+use crate::{Answer, Table};
+use rows::{BLANK, Row, State, charged, is_ready, length_meant, next_set, opened};
 
 impl Table {
     // The row of a queue number; past the last there is none.
-    pub(crate) fn row_of(self, queue: u64) -> Row
-        ensures { result ≡ table.row self queue }
+    #[tactic(auto, using(std::proofs::lemmas::Option::get_or_from_slice_get, crate::proofs::Sound::row_past), unfolding(crate::specs::Table::row))]
+    pub(crate) fn row_of(&self, queue: u64) -> Row
+        ensures { result ≡ table.row self.now queue }
     {
-        if Table::QUEUES <= queue {
-            return BLANK;
+        match self.rows.get(queue as usize) {
+            Some(row) => *row,
+            None => BLANK,
         }
-        let at = queue as usize;
-        self.rows[at]
     }
 
     // A row in another's place: the old row's share leaves W and A, the new row's enters; where no row is left, the table rests where the old one stood.
-    fn placed(self, queue: u64, row: Row) -> Table
-        requires { asks.Placing self queue row }
-        ensures { result ≡ table.placed self queue row }
+    #[tactic(auto, using(crate::proofs::Totals::may_replace), unfolding(crate::specs::Table::placed, crate::specs::Table::row))]
+    fn put(&mut self, queue: u64, row: Row)
+        requires { asks.Placing self.old queue row }
+        ensures { self.new ≡ table.placed self.old queue row }
     {
         let at = queue as usize;
-        let mut t = self;
-        let old = t.rows[at];
-        t.rows[at] = row;
-        t.head = t.head.replaced(old, row);
-        t
+        let old = self.rows[at];
+        self.rows[at] = row;
+        self.head = self.head.replaced(old, row);
     }
 
-    // The release that ends an event: going rows that V has reached are freed, pass after pass from the top, until W stays as it was and so a pass has freed
-    // none. Freeing one may make another ready. No going row stands before `nearest`: where V has not reached even that, there is no pass.
-    pub(crate) fn released(self, nearest: u64) -> Table
-        requires { asks.Settling self nearest }
-        ensures { result ≡ release.released self }
+    // The release that ends an event: going rows that V has reached are freed, pass after pass, until W stays as it was and so a pass has freed none.
+    // Freeing one may make another ready. No going row stands before `nearest`: where V has not reached even that, there is no pass.
+    #[tactic(auto, using(crate::proofs::Grounds::nothing_ready, crate::proofs::Passes::releasing))]
+    fn settle(&mut self, nearest: u64)
+        requires { asks.Settling self.old nearest }
+        ensures { self.new ≡ release.released self.old }
     {
-        let mut t = self;
-        // What W was before the last pass; more than it is, where there is to be a first one.
-        let mut weight = t.head.total;
-        if t.head.reached(nearest) {
-            weight += 1;
+        if !self.head.time().reached(nearest) {
+            return;
         }
-        while t.head.total < weight {
-            weight = t.head.total;
-            let mut i: usize = 64;
-            while 0 < i {
-                i -= 1;
-                let row = t.rows[i];
-                if is_ready(row, t.head.total, t.head.sum) {
-                    t.rows[i] = BLANK;
-                    t.head = t.head.replaced(row, BLANK);
-                }
+        // What W was before the last pass; more than it is, so that there is a first one.
+        let mut weight = self.head.total + 1;
+        while self.head.total < weight {
+            weight = self.head.total;
+            self.pass();
+        }
+    }
+
+    // One pass over the rows, from the top.
+    #[tactic(auto, using(crate::proofs::Passes::passing), unfolding(crate::specs::Table::row, crate::specs::Release::freed, crate::specs::Table::placed, crate::specs::Sound::ready))]
+    fn pass(&mut self)
+        requires { asks.Releasing self.old }
+        ensures { asks.PassedOver self.old self.new }
+    {
+        for at in (0..64).rev() {
+            let row = self.rows[at];
+            if is_ready(row, self.head.time()) {
+                self.rows[at] = BLANK;
+                self.head = self.head.replaced(row, BLANK);
             }
         }
-        t
     }
 
-    pub(crate) fn joined(self, queue: u64, weight: u64, length: u64, nearest: u64) -> Table
-        requires { (asks.Joins self queue weight length) × (asks.Ahead self nearest) }
-        ensures { result ≡ events.joined self queue weight length }
+    // A queue enters where V stands, or where an empty table rests, with a request of this length.
+    #[tactic(auto, using(crate::proofs::Grounds::enters), unfolding(crate::specs::Events::joined, rows::specs::Requests::entering))]
+    pub(crate) fn enter(&mut self, queue: u64, weight: u64, length: u64, nearest: u64)
+        requires { (asks.Joins self.old queue weight length) × (asks.Ahead self.old nearest) }
+        ensures { self.new ≡ events.joined self.old queue weight length }
     {
-        let head = self.head;
-        let position = head.entry();
-        let request = opened(position, length_meant(head.terms, length));
+        let position = self.head.entry();
+        let request = opened(position, length_meant(self.head.terms, length));
         let row = Row {
             weight,
             position,
             state: State::Asking(request),
         };
-        self.placed(queue, row).released(nearest)
+        self.put(queue, row);
+        self.settle(nearest);
     }
 
     // Freed if V has reached it; else it goes, with its weight kept in W, and is released when V does.
-    pub(crate) fn left(self, queue: u64, nearest: u64) -> Table
-        requires { (asks.Leaves self queue) × (asks.Ahead self nearest) }
-        ensures { result ≡ events.left self queue }
+    #[tactic(auto, using(crate::proofs::Grounds::departs), unfolding(crate::specs::Events::left, crate::specs::Events::leaving))]
+    pub(crate) fn depart(&mut self, queue: u64, nearest: u64)
+        requires { (asks.Leaves self.old queue) × (asks.Ahead self.old nearest) }
+        ensures { self.new ≡ events.left self.old queue }
     {
         let row = self.row_of(queue);
-        let weight = row.weight;
-        let position = row.position;
-        let head = self.head;
-        if head.reached(position) {
-            return self.placed(queue, BLANK).released(nearest);
+        if self.head.time().reached(row.position) {
+            self.put(queue, BLANK);
+            self.settle(nearest);
+        } else {
+            self.put(
+                queue,
+                Row {
+                    state: State::Going,
+                    ..row
+                },
+            );
+            self.settle(nearest.min(row.position));
         }
-        let gone = Row {
-            weight,
-            position,
-            state: State::Going,
-        };
-        self.placed(queue, gone).released(lesser(nearest, position))
     }
 
-    pub(crate) fn reweighted(self, queue: u64, weight: u64, length: u64, nearest: u64) -> Table
-        requires { (asks.Reweights self queue weight length) × (asks.Ahead self nearest) }
-        ensures { result ≡ events.reweighted self queue weight length }
+    #[tactic(auto, using(crate::proofs::Departing::rejoins, crate::proofs::Settling::left_ahead), unfolding(crate::specs::Events::reweighted))]
+    pub(crate) fn reenter(&mut self, queue: u64, weight: u64, length: u64, nearest: u64)
+        requires { (asks.Reweights self.old queue weight length) × (asks.Ahead self.old nearest) }
+        ensures { self.new ≡ events.reweighted self.old queue weight length }
     {
-        self.left(queue, nearest)
-            .joined(queue, weight, length, nearest)
+        self.depart(queue, nearest);
+        self.enter(queue, weight, length, nearest);
     }
 
-    pub(crate) fn length_set(self, queue: u64, length: u64) -> Table
-        requires { asks.Lengthens self queue length }
-        ensures { result ≡ events.length_set self queue length }
+    #[tactic(auto, using(crate::proofs::Grounds::lengthening_places), unfolding(crate::specs::Events::length_set))]
+    pub(crate) fn set_length(&mut self, queue: u64, length: u64)
+        requires { asks.Lengthens self.old queue length }
+        ensures { self.new ≡ events.length_set self.old queue length }
+    {
+        let meant = length_meant(self.head.terms, length);
+        self.put(queue, next_set(self.row_of(queue), meant));
+    }
+
+    // The slice goes out to the queue that is chosen.
+    #[tactic(auto, unfolding(crate::specs::Events::granted, crate::specs::Table::with_slice, head::specs::Head::sliced, crate::specs::Events::slice_given))]
+    pub(crate) fn hand_out(&mut self, queue: u64) -> Answer
+        requires { (asks.Grants self.old) × (queue ≡ chosen self.old) }
+        ensures { record { answer = result; table = self.new } ≡ granted_reply self.old }
+    {
+        let slice = self.head.slice_for(self.row_of(queue));
+        self.head.out = true;
+        self.head.holder = queue;
+        self.head.ticks = slice;
+        Answer::Granted { queue, slice }
+    }
+
+    // The slice comes back, and its queue is charged with the ticks used.
+    #[tactic(auto, using(crate::proofs::Grounds::returns), unfolding(crate::specs::Events::returned, crate::specs::Table::with_slice, head::specs::Head::sliced))]
+    pub(crate) fn take_back(&mut self, queue: u64, used: u64, early: bool, nearest: u64)
+        requires { (asks.Returns self.old queue used) × (asks.Ahead self.old nearest) }
+        ensures { self.new ≡ events.returned self.old queue used early }
     {
         let row = self.row_of(queue);
-        let meant = length_meant(self.head.terms, length);
-        self.placed(queue, next_set(row, meant))
+        self.head.out = false;
+        self.head.holder = 0;
+        self.head.ticks = 0;
+        self.put(queue, charged(row, used, early));
+        self.settle(nearest);
     }
 }

@@ -6,15 +6,13 @@ ghost use Rattle.share.specs.Sound.{Orderly};
 use crate::Table;
 
 impl Table {
-    pub(crate) fn write_lags(self, list: &mut [i64])
-        requires { (Orderly self) × (64 ≤ length list.old) }
-        ensures { list.new ≡ lags_into self list.old }
+    #[tactic(auto, using(crate::proofs::Written::writing), unfolding(crate::specs::Table::row))]
+    pub(crate) fn write_lags(&self, list: &mut [i64])
+        requires { (Orderly self.now) × (64 ≤ length list.old) }
+        ensures { list.new ≡ lags_into self.now list.old }
     {
-        let mut i: usize = 0;
-        while i < 64 {
-            let row = self.rows[i];
-            list[i] = self.head.lag_of(row);
-            i += 1;
+        for (at, row) in self.rows.iter().enumerate() {
+            list[at] = self.head.lag_of(*row);
         }
     }
 }

@@ -1,19 +1,18 @@
 // The share table of one render engine: queues share it by weight, a slice at a time.
 #![tactic(auto)]
 
-ghost use Rattle.std.specs.Prelude.{◌≡◌, ◌≤◌};
-ghost use Rattle.rows.specs.Fits.{Crossing};
-ghost use Rattle.rows.specs.Numbers.{max_total};
+ghost use Rattle.std.specs.Prelude.{◌≡◌, IfOk, IfErr};
 ghost use Rattle.share.specs.Events.{empty_table};
-ghost use Rattle.share.specs.Calls.{accepted, fresh_reply, grant_reply, join_reply, lag_list, lag_reply, leave_reply, length_reply, refused, release_reply, reported_reply, return_reply, reweight_reply, standing_reply, stands_reply, step};
+ghost use Rattle.share.specs.Calls.{fresh_reply, grant_reply, join_reply, lag_list, lag_reply, leave_reply, length_reply, refused, release_reply, replied, return_reply, reweight_reply, standing_reply, step};
+ghost use Rattle.share.specs.Walks.{Permitted};
 
 mod changes;
 mod lags;
 mod soundness;
 
-pub use head::{Answer, BROKEN, Event, Head, Line, Refusal, Shown};
-use head::{Verdict, standing_verdict};
-use rows::{Row, UNSEEN, charged, exchanged, first_row, moment, place, reached, seen_after};
+use head::{Survey, standing_verdict};
+pub use head::{Answer, BROKEN, Event, Grant, Head, Refusal, Shown};
+use rows::Row;
 pub use rows::{Standing, Terms};
 
 #[derive(Clone, Copy)]
@@ -27,6 +26,19 @@ pub struct Table {
 pub struct Reply {
     pub answer: Answer,
     pub table: Table,
+}
+
+// What is told of a table that is not sound: nothing. No going row of any table stands before 0.
+const UNTOLD: Survey = Survey {
+    chosen: None,
+    nearest: 0,
+};
+
+// What is known of an event that is not refused: the queue that decides on it, and a position that no going row stands before.
+#[derive(Clone, Copy)]
+struct Judged {
+    queue: u64,
+    nearest: u64,
 }
 
 impl Table {
@@ -54,6 +66,7 @@ impl Table {
     };
 
     // A table of free rows, whatever the terms: `fresh` is the call that looks at them.
+    #[tactic(auto, unfolding(crate::specs::Events::empty_table, head::specs::Head::empty_head))]
     pub fn empty(terms: Terms) -> Table
         ensures { result ≡ empty_table terms }
     {
@@ -97,13 +110,12 @@ impl Table {
     }
 
     // Every call ends in its release, so a sound table has no row left to free.
+    #[tactic(auto, using(crate::proofs::Accepted::nothing_to_free), unfolding(crate::specs::Calls::release_reply, crate::specs::Calls::release_checks, crate::specs::Calls::call))]
     pub fn release(self) -> Reply
         ensures { result ≡ release_reply self }
     {
-        match Verdict::Fine.or(Refusal::Unsound, !self.is_sound()) {
-            Verdict::Refused(why) => self.refused(why),
-            Verdict::Fine => self.accepted(),
-        }
+        let judged = Refusal::Unsound.when(!self.is_sound());
+        self.reply(judged.map(|()| Answer::Accepted))
     }
 
     // A leave with its release, then at once a join of the same number.
@@ -142,11 +154,17 @@ impl Table {
     pub fn standing(self, queue: u64) -> Reply
         ensures { result ≡ standing_reply self queue }
     {
+        let answer = self.standing_told(queue);
+        self.reply(answer)
+    }
+
+    #[tactic(auto, using(crate::proofs::Sound::sound_says, crate::proofs::Totals::total_most, rows::proofs::Shares::position_small), unfolding(crate::specs::Calls::standing_reply, crate::specs::Calls::standing_checks, crate::specs::Calls::call))]
+    fn standing_told(&self, queue: u64) -> Result<Answer, Refusal>
+        ensures { replied self.now result ≡ standing_reply self.now queue }
+    {
         let row = self.row_of(queue);
-        match standing_verdict(self.is_sound(), row, queue) {
-            Verdict::Refused(why) => self.refused(why),
-            Verdict::Fine => self.told(row.position),
-        }
+        standing_verdict(self.is_sound(), row, queue)?;
+        Ok(Answer::Stands(self.head.time().stands(row.position)))
     }
 
     // Each row's lag, as the numerator over the common denominator W x 720,720. Entries 64 and up are kept.
@@ -154,143 +172,79 @@ impl Table {
         ensures told { result ≡ lag_reply self list.old }
         ensures written { list.new ≡ lag_list self list.old }
     {
-        let verdict = Verdict::Fine
-            .or(Refusal::Unsound, !self.is_sound())
-            .or(Refusal::ListShort, list.len() < 64);
-        match verdict {
-            Verdict::Refused(why) => self.refused(why),
-            Verdict::Fine => {
-                self.write_lags(list);
-                self.reported()
-            }
-        }
+        let answer = self.lags_told(list);
+        self.reply(answer)
     }
 
-    // One event of a run: the door for every program and every call. It walks once over the rows of a copy of its own, judges the event by what it
-    // saw there, and does it on that copy where no refusal applies. Grants and returns, which an engine sees all day, are done in place: a table
-    // handed from function to function is copied each time. A refused fresh keeps the present table.
+    #[tactic(auto, using(crate::proofs::Sound::sound_says, crate::proofs::Totals::total_most), unfolding(crate::specs::Calls::lag_reply, crate::specs::Calls::lag_list, crate::specs::Calls::lag_checks, crate::specs::Calls::call, head::specs::Lag::lag_unit))]
+    fn lags_told(&self, list: &mut [i64]) -> Result<Answer, Refusal>
+        ensures told { replied self.now result ≡ lag_reply self.now list.old }
+        ensures written { list.new ≡ lag_list self.now list.old }
+    {
+        Refusal::Unsound.when(!self.is_sound())?;
+        Refusal::ListShort.when(list.len() < 64)?;
+        self.write_lags(list);
+        Ok(Answer::Reported {
+            denominator: self.head.total * rows::UNIT,
+        })
+    }
+
+    // One event of a run: the door for every program and every call. A refused fresh keeps the present table.
     pub fn apply(self, event: Event) -> Reply
         ensures { result ≡ step self event }
     {
-        let head = self.head;
-        let mut t = self;
-        let total = head.total;
-        let sum = head.sum;
-        let terms = head.terms;
-        let mut walked = UNSEEN;
-        let mut i = first_row(total);
-        while i < 64 {
-            let row = t.rows[i];
-            walked = seen_after(walked, i as u64, row, total, sum, terms);
-            let faults = walked.faults;
-            if 0 < faults {
-                break;
-            }
-            i += 1;
-        }
-        let holding = place(head.holder);
-        let held = t.rows[holding];
-        let seen = head.survey(walked, held);
-        // The row that decides on the event.
-        let at = place(event.concerns(seen.queue));
-        let row = t.rows[at];
-        let mut answer = Answer::Accepted;
-        match head.verdict(event, seen.sound, row) {
-            Verdict::Refused(why) => {
-                answer = Answer::Refused(why);
-            }
-            Verdict::Fine => {
-                match event {
-                    Event::Fresh { terms } => {
-                        t = Table::empty(terms);
-                    }
-                    Event::Join {
-                        queue,
-                        weight,
-                        length,
-                    } => {
-                        t = t.joined(queue, weight, length, seen.nearest);
-                    }
-                    Event::Leave { queue } => {
-                        t = t.left(queue, seen.nearest);
-                    }
-                    Event::Reweight {
-                        queue,
-                        weight,
-                        length,
-                    } => {
-                        t = t.reweighted(queue, weight, length, seen.nearest);
-                    }
-                    Event::Length { queue, length } => {
-                        t = t.length_set(queue, length);
-                    }
-                    Event::Grant => {
-                        let queue = seen.queue;
-                        let slice = head.slice_for(row);
-                        t.head.out = true;
-                        t.head.holder = queue;
-                        t.head.ticks = slice;
-                        answer = Answer::Granted { queue, slice };
-                    }
-                    Event::Return {
-                        queue: _,
-                        used,
-                        early,
-                    } => {
-                        // The weight stays, and so does W; A follows the row.
-                        let next = charged(row, used, early);
-                        t.rows[at] = next;
-                        t.head.sum = exchanged(sum, moment(row), moment(next));
-                        t.head.out = false;
-                        t.head.holder = 0;
-                        t.head.ticks = 0;
-                        if reached(seen.nearest, total, t.head.sum) {
-                            t = t.released(seen.nearest);
-                        }
-                    }
-                }
-            }
-        }
-        Reply { answer, table: t }
+        let mut table = self;
+        let answer = table.change(event);
+        table.reply(answer)
     }
 
-    fn reported(self) -> Reply
-        requires { self.head.total ≤ max_total }
-        ensures { result ≡ reported_reply self }
+    // In place, where no refusal applies. Refused, the table is as it was.
+    fn change(&mut self, event: Event) -> Result<Answer, Refusal>
+        ensures { replied self.new result ≡ step self.old event }
     {
-        Reply {
-            answer: Answer::Reported {
-                denominator: self.head.total * rows::UNIT,
-            },
-            table: self,
+        let Judged { queue, nearest } = self.judge(event)?;
+        match event {
+            Event::Fresh { terms } => *self = Table::empty(terms),
+            Event::Join {
+                queue,
+                weight,
+                length,
+            } => self.enter(queue, weight, length, nearest),
+            Event::Leave { queue } => self.depart(queue, nearest),
+            Event::Reweight {
+                queue,
+                weight,
+                length,
+            } => self.reenter(queue, weight, length, nearest),
+            Event::Length { queue, length } => self.set_length(queue, length),
+            Event::Grant => return Ok(self.hand_out(queue)),
+            Event::Return { queue, used, early } => self.take_back(queue, used, early, nearest),
         }
+        Ok(Answer::Accepted)
     }
 
-    fn told(self, position: u64) -> Reply
-        requires { Crossing position self.head.total }
-        ensures { result ≡ stands_reply self position }
+    // Walks once over the rows, and judges the event by what it saw there.
+    fn judge(&self, event: Event) -> Result<Judged, Refusal>
+        ensures allowed { IfOk result (λ j. Permitted self.now event j.queue j.nearest) }
+        ensures against { IfErr result (λ why. refused self.now why ≡ step self.now event) }
     {
-        let head = self.head;
-        Reply {
-            answer: Answer::Stands(head.stands(position)),
-            table: self,
-        }
+        let survey = self.survey();
+        let told = survey.unwrap_or(UNTOLD);
+        let queue = event.concerns(told.chosen.unwrap_or(0));
+        self.head
+            .verdict(event, survey.is_some(), self.row_of(queue))?;
+        Ok(Judged {
+            queue,
+            nearest: told.nearest,
+        })
     }
 
-    fn accepted(self) -> Reply
-        ensures { result ≡ accepted self }
+    // The table handed back beside what was answered.
+    fn reply(self, answer: Result<Answer, Refusal>) -> Reply
+        ensures { result ≡ replied self answer }
     {
         Reply {
-            answer: Answer::Accepted,
-            table: self,
-        }
-    }
-
-    fn refused(self, why: Refusal) -> Reply
-        ensures { result ≡ refused self why }
-    {
-        Reply {
-            answer: Answer::Refused(why),
+            answer: answer.unwrap_or_else(Answer::Refused),
             table: self,
         }
     }

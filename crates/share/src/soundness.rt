@@ -1,38 +1,41 @@
-// Whether a table is sound, for the calls that ask for that alone: the walk of `apply`, and nothing after it.
+// Whether a table is sound, and what is told of one that is: one walk over the rows, judged by the head.
 ghost use Rattle.std.specs.Prelude.{◌≡◌};
 ghost use Rattle.share.specs.Sound.{sound};
 ghost use Rattle.share.specs.Walks as walks;
 
 use crate::Table;
-use rows::{Seen, UNSEEN, first_row, seen_after};
+use head::Survey;
+use rows::{Gauge, Seen, UNSEEN, VirtualTime};
 
 impl Table {
-    fn walked(self) -> Seen
-        ensures { walks.Walked self result }
+    // The walk over all rows; none where one has a fault. A table that weighs more than its rows can is not walked over.
+    #[tactic(auto, using(crate::proofs::Walk::walking), unfolding(crate::specs::Table::row))]
+    fn walked(&self) -> Option<Seen>
+        ensures { walks.Walked self.now result }
     {
-        let total = self.head.total;
-        let sum = self.head.sum;
-        let terms = self.head.terms;
-        let mut walked = UNSEEN;
-        let mut i = first_row(total);
-        while i < 64 {
-            let row = self.rows[i];
-            walked = seen_after(walked, i as u64, row, total, sum, terms);
-            let faults = walked.faults;
-            if 0 < faults {
-                break;
-            }
-            i += 1;
+        let gauge = Gauge {
+            time: VirtualTime::of(self.head.total, self.head.sum)?,
+            terms: self.head.terms,
+        };
+        let mut seen = UNSEEN;
+        for (at, row) in self.rows.iter().enumerate() {
+            seen = seen.after(at as u64, *row, gauge)?;
         }
-        walked
+        Some(seen)
     }
 
-    pub(crate) fn is_sound(self) -> bool
-        ensures { result ≡ sound self }
+    // None of a table that is not sound.
+    #[tactic(auto, using(crate::proofs::Surveys::none_tells, crate::proofs::Surveys::may_survey, crate::proofs::Surveys::survey_tells))]
+    pub(crate) fn survey(&self) -> Option<Survey>
+        ensures { walks.Surveyed self.now result }
     {
-        let head = self.head;
-        let held = self.row_of(head.holder);
-        let seen = head.survey(self.walked(), held);
-        seen.sound
+        let seen = self.walked()?;
+        self.head.survey(seen, self.row_of(self.head.holder))
+    }
+
+    pub(crate) fn is_sound(&self) -> bool
+        ensures { result ≡ sound self.now }
+    {
+        self.survey().is_some()
     }
 }

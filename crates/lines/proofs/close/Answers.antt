@@ -3,4 +3,4 @@ use Rattle.lines.proofs.Turning.{closed_newline}
 use Rattle.lines.proofs.close.Goals as goal
 
 pub returns : goal.returns
-returns c = closed_newline c.args.state c.args.buf.now c.if-have-from.false c.if-buf-have.false
+returns c = rw c.idle-2.ensures (closed_newline c.args.state c.args.buf.now c.if-state.false c.if-buf-state.false)

@@ -1,40 +1,34 @@
 -- `work` goes from line to line. The invariant is `Working`: whatever comes after the piece, it prints what is written and then what is left
 -- of it. The measure is what is left of the piece.
-use mathlib.Core.Path.{◌≡◌, sym}
-use mathlib.Core.List.{List}
-use Prim.Native.Nat.{ℕ, ◌+◌, ◌-◌, ◌^◌, ◌≤◌}
+use Prim.Native.Nat.{◌+◌, ◌^◌, ◌≤◌, ◌<◌}
 use native.Mathlib.Omega.{arith}
-use lib.ListN.{length, drop}
-use Rattle.share.specs.declared.Table.{Table}
-use Rattle.lines.specs.Cut.{newline, before}
-use Rattle.lines.proofs.Working.{Working, AtLine, working_known, working_broken, working_ended, end_within, at_end_of_piece}
+use lib.ListN.{length}
+use Rattle.std.proofs.lemmas.List.{take_rest}
+use Rattle.lines.proofs.Working.{working_first, working_known, working_broken, working_ended, working_stopped}
+use Rattle.lines.proofs.work.Goals.{in-Some-read_line, in-None}
 use Rattle.lines.proofs.work.Goals as goal
 
--- The next line is whole, its answer has room, and there is a number for the line after it.
-at_line : {line : ℕ} {t : Table} {input out₀ out : List ℕ} {u : Table} {next i written e : ℕ}
-    → Working line t input out₀ out u next i written → e ≡ i + length (before newline (drop i input)) → (e ≡ length input → ⊥)
-    → 126 ≤ length out - written → (next ≡ 2 ^ 64 - 1 → ⊥) → AtLine line t input out₀ out u next i written e
-at_line w end more room number =
-    record {
-      working = w;
-      ends = end;
-      inside = omega (arith, end_within w end, more);
-      has_room = omega (arith, w.room, room);
-      has_number = omega (arith, w.numbered, number);
-    }
+pub loop-length-init : goal.loop-length-init
+loop-length-init c = working_first _ _ _ _ (omega arith)
 
-pub slice_bounds-read_line-end : goal.slice_bounds-read_line-end
-slice_bounds-read_line-end c = end_within c.loop-i.invariant c.line_end-e.ensures
+pub returns-then-out-done-lt-ROOM : goal.returns-then-out-done-lt-ROOM
+returns-then-out-done-lt-ROOM c = working_stopped c.loop-length.invariant (grind arith)
 
-pub loop-i-preserved-in_default : goal.loop-i-preserved-in_default
-loop-i-preserved-in_default c =
-    let line = at_line c.loop-i.invariant c.line_end-e.ensures c.if-e-input.false c.if-out-written-lt-ROOM.false c.if-line.false in
-    working_broken line (sym c.in_default.ensures) c.plain.ensures c.write_answer-written.ensures
-
-pub loop-i-preserved : goal.loop-i-preserved
-loop-i-preserved c =
-    let line = at_line c.loop-i.invariant c.line_end-e.ensures c.if-e-input.false c.if-out-written-lt-ROOM.false c.if-line.false in
-    working_known line (sym c.in-Known.ensures) c.apply-reply.ensures c.shown.ensures c.write_answer-written-in-loop-i.ensures
+pub loop-length-preserved : goal.loop-length-preserved
+loop-length-preserved c =
+    let line = rw take_rest at c.in-Some.ensures in
+    let room : c.loop-length.done.written + 126 ≤ length c.loop-length.out = omega (arith, c.loop-length.invariant, c.if-out-done-lt-ROOM.false) in
+    let number : c.loop-length.done.line + 1 < 2 ^ 64 = omega (arith, c.loop-length.invariant, c.if-done.false) in
+    elim c.match-read_line.branch [
+      | in-Some-read_line b ↦
+          rw b.done-is
+          (working_known c.loop-length.invariant line.0 line.1 room number b.in-Some-read_line.ensures b.apply-reply.ensures b.shown-shown.ensures
+          (rw (b.done-is, b.shown-is) at c.write_answer.ensures))
+      | in-None b ↦
+          rw b.done-is
+          (working_broken c.loop-length.invariant line.0 line.1 room number b.in-None.ensures b.plain-shown.ensures
+          (rw (b.done-is, b.shown-is) at c.write_answer.ensures))
+    ]
 
 pub returns : goal.returns
-returns c = working_ended c.loop-i.invariant (at_end_of_piece c.loop-i.invariant c.loop-i-test.false)
+returns c = working_ended c.loop-length.invariant (rw take_rest at c.in_default.ensures)

@@ -3,8 +3,8 @@ use lib.ListN.{length}
 use Rattle.lines.proofs.Working.{Working}
 use Rattle.lines.proofs.work.Given as goal
 
-abbrev pub invariant-loop-i : goal.invariant-loop-i
-invariant-loop-i l = Working l.initial.line l.initial.t l.input l.initial.out l.out l.t l.line l.i l.written
+abbrev pub invariant-loop-length : goal.invariant-loop-length
+invariant-loop-length l = Working l.line l.fn.table l.input l.initial.out l.out l.done
 
-abbrev pub decreases-loop-i : goal.decreases-loop-i
-decreases-loop-i l = length l.input - l.i
+abbrev pub decreases-loop-length : goal.decreases-loop-length
+decreases-loop-length l = length l.input - l.done.read

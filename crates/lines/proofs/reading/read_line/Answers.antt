@@ -1,76 +1,87 @@
 -- `read_line` takes the line field by field; at each `return` the fields found so far say what the definition makes of the whole line. The
 -- lemmas follow the code, and say what is found at each stage; that the line is short, has two bytes, and a space for the second of them, is in `c`.
-use mathlib.Core.Path.{sym, ◌∙◌}
+use mathlib.Core.Path.{◌≡◌, sym, ◌∙◌}
 use Prim.Native.Nat.{◌≤◌}
 use native.Mathlib.Omega.{arith}
-use lib.ListN.{length}
+use lib.ListN.{length, get_or}
 use Rattle.lines.proofs.Fields.{Lettered, OneFound, TwoFound, overlong, empty_line, one_byte, ends_within, no_first, one_number, no_second, two_numbers, no_third, three_numbers, four_fields}
 use Rattle.lines.proofs.reading.read_line.Goals as goal
-use Rattle.lines.proofs.reading.read_line.Goals.{Else-i-s, Else-j-s}
+use Rattle.lines.proofs.reading.read_line.Goals.{Else-s-ne32, Else-first-s, Else-second-s}
+
+lettered : (c : Else-s-ne32) → Lettered c.args.s.now
+lettered c = record { short = omega arith; two = grind arith; gap = omega arith }
 
 -- A first number is found, and there is more after it.
-one_found : (c : Else-i-s) → OneFound c.args.s.now c.in-Decimal.a c.in-Decimal.i
+one_found : (c : Else-first-s) → OneFound c.args.s.now c.in_ok-first.first
 one_found c =
-    let l : Lettered c.args.s.now = record { short = omega arith; two = omega arith; gap = omega arith } in
-    let inside : c.in-Decimal.i ≤ length c.args.s.now = ends_within _ 2 l.two (sym c.in-Decimal.ensures) in
-    record { lettered = l; first = sym c.in-Decimal.ensures; more = omega (arith, c.if-i-s.false) }
+    let l = lettered (goal.at.overflow_add-first c).Else-s-ne32 in
+    let inside : c.in_ok-first.first.end ≤ length c.args.s.now = ends_within _ 2 l.two (sym c.in_ok-first.ensures) in
+    record { lettered = l; first = sym c.in_ok-first.ensures; more = omega (arith, c.if-first-s.false) }
 
 -- A second number is found, and there is more after it.
-two_found : (c : Else-j-s) → TwoFound c.args.s.now c.in-Decimal.a c.in-Decimal.i c.in-Decimal-second.b c.in-Decimal-second.j
+two_found : (c : Else-second-s) → TwoFound c.args.s.now c.in_ok-first.first c.in_ok-second.second
 two_found c =
-    let o = one_found (goal.at.overflow_add-j c).Else-i-s in
-    let inside : c.in-Decimal-second.j ≤ length c.args.s.now = ends_within _ _ (omega (arith, o.more)) (sym c.in-Decimal-second.ensures) in
-    record { one = o; second = sym c.in-Decimal-second.ensures; more = omega (arith, c.if-j-s.false) }
+    let o = one_found (goal.at.overflow_add-second c).Else-first-s in
+    let inside : c.in_ok-second.second.end ≤ length c.args.s.now = ends_within _ _ (omega (arith, o.more)) (sym c.in_ok-second.ensures) in
+    record { one = o; second = sym c.in_ok-second.ensures; more = omega (arith, c.if-second-s.false) }
 
 pub returns-then-s-gt-LONGEST : goal.returns-then-s-gt-LONGEST
 returns-then-s-gt-LONGEST c = sym (overlong _ c.if-s-gt-LONGEST.true)
 
-pub returns-then-s-eq0 : goal.returns-then-s-eq0
-returns-then-s-eq0 c = sym (empty_line _ c.if-s-eq0.true)
+pub returns-in_err-letter : goal.returns-in_err-letter
+returns-in_err-letter c = c.from_residual.ensures ∙ sym (empty_line _ (grind arith))
 
 pub returns-then-s-eq1 : goal.returns-then-s-eq1
-returns-then-s-eq1 c = c.with_none.ensures ∙ sym (one_byte _ c.if-s-eq1.true)
+returns-then-s-eq1 c =
+    let letter : c.in_ok-letter.field-0.now ≡ get_or c.args.s.now 0 0 = grind arith in
+    c.event_of.ensures ∙ rw letter (sym (one_byte _ c.if-s-eq1.true))
 
-pub returns-in_default : goal.returns-in_default
-returns-in_default c = sym (no_first (record { short = omega arith; two = omega arith; gap = omega arith }) (sym c.in_default.ensures))
+pub returns-in_err-first : goal.returns-in_err-first
+returns-in_err-first c =
+    c.from_residual-in_err-first.ensures ∙ sym (no_first (lettered (goal.at.returns-in_err-first c).Else-s-ne32) (sym c.in_err-first.ensures))
 
-pub returns-then-i-s : goal.returns-then-i-s
-returns-then-i-s c =
-    let l : Lettered c.args.s.now = record { short = omega arith; two = omega arith; gap = omega arith } in
-    c.with_one.ensures ∙ sym (one_number l (sym c.in-Decimal.ensures) c.if-i-s.true)
+pub returns-then-first-s : goal.returns-then-first-s
+returns-then-first-s c =
+    let letter : c.in_ok-letter.field-0.now ≡ get_or c.args.s.now 0 0 = grind arith in
+    let l = lettered (goal.at.returns-then-first-s c).Else-s-ne32 in
+    c.event_of-then-first-s.ensures ∙ rw letter (sym (one_number l (sym c.in_ok-first.ensures) c.if-first-s.true))
 
-pub overflow_add-i : goal.overflow_add-i
-overflow_add-i c = omega (arith, one_found c)
+pub overflow_add-first : goal.overflow_add-first
+overflow_add-first c = omega (arith, one_found c)
 
-pub decimal_at-second-requires : goal.decimal_at-second-requires
-decimal_at-second-requires c = omega (arith, one_found c)
+pub decimal_at-requires-2 : goal.decimal_at-requires-2
+decimal_at-requires-2 c = omega (arith, one_found c)
 
-pub returns-in_default-second : goal.returns-in_default-second
-returns-in_default-second c =
-    sym (no_second (one_found (goal.at.returns-in_default-second c).Else-i-s) (sym c.in_default-second.ensures))
+pub returns-in_err-second : goal.returns-in_err-second
+returns-in_err-second c =
+    c.from_residual-in_err-second.ensures
+    ∙ sym (no_second (one_found (goal.at.returns-in_err-second c).Else-first-s) (sym c.in_err-second.ensures))
 
-pub returns-then-j-s : goal.returns-then-j-s
-returns-then-j-s c =
-    let o = one_found (goal.at.returns-then-j-s c).Else-i-s in
-    c.with_two.ensures ∙ sym (two_numbers o (sym c.in-Decimal-second.ensures) c.if-j-s.true)
+pub returns-then-second-s : goal.returns-then-second-s
+returns-then-second-s c =
+    let letter : c.in_ok-letter.field-0.now ≡ get_or c.args.s.now 0 0 = grind arith in
+    let o = one_found (goal.at.returns-then-second-s c).Else-first-s in
+    c.event_of-then-second-s.ensures ∙ rw letter (sym (two_numbers o (sym c.in_ok-second.ensures) c.if-second-s.true))
 
-pub overflow_add-j : goal.overflow_add-j
-overflow_add-j c = omega (arith, two_found c)
+pub overflow_add-second : goal.overflow_add-second
+overflow_add-second c = omega (arith, two_found c)
 
-pub decimal_at-third-requires : goal.decimal_at-third-requires
-decimal_at-third-requires c = omega (arith, two_found c)
+pub decimal_at-requires-3 : goal.decimal_at-requires-3
+decimal_at-requires-3 c = omega (arith, two_found c)
 
-pub returns-in_default-third : goal.returns-in_default-third
-returns-in_default-third c =
-    sym (no_third (two_found (goal.at.returns-in_default-third c).Else-j-s) (sym c.in_default-third.ensures))
+pub returns-in_err-third : goal.returns-in_err-third
+returns-in_err-third c =
+    c.from_residual-in_err-third.ensures
+    ∙ sym (no_third (two_found (goal.at.returns-in_err-third c).Else-second-s) (sym c.in_err-third.ensures))
 
-pub returns-then-k-s : goal.returns-then-k-s
-returns-then-k-s c =
-    let t = two_found (goal.at.returns-then-k-s c).Else-j-s in
-    c.with_three.ensures ∙ sym (three_numbers t (sym c.in-Decimal-third.ensures) c.if-k-s.true)
+pub returns-then-third-s : goal.returns-then-third-s
+returns-then-third-s c =
+    let letter : c.in_ok-letter.field-0.now ≡ get_or c.args.s.now 0 0 = grind arith in
+    let t = two_found (goal.at.returns-then-third-s c).Else-second-s in
+    c.event_of-then-third-s.ensures ∙ rw letter (sym (three_numbers t (sym c.in_ok-third.ensures) c.if-third-s.true))
 
 pub returns : goal.returns
 returns c =
-    let t = two_found (goal.at.returns c).Else-j-s in
-    let inside : c.in-Decimal-third.k ≤ length c.args.s.now = ends_within _ _ (omega (arith, t.more)) (sym c.in-Decimal-third.ensures) in
-    sym (four_fields t (sym c.in-Decimal-third.ensures) (omega (arith, c.if-k-s.false)))
+    let t = two_found (goal.at.returns c).Else-second-s in
+    let inside : c.in_ok-third.third.end ≤ length c.args.s.now = ends_within _ _ (omega (arith, t.more)) (sym c.in_ok-third.ensures) in
+    sym (four_fields t (sym c.in_ok-third.ensures) (omega (arith, c.if-third-s.false)))

@@ -1,9 +1,6 @@
-use Prim.Native.Nat.{◌-◌}
-use Rattle.share.proofs.Walk.{Walking}
 use Rattle.share.proofs.Table.walked.Given as goal
+use Rattle.share.specs.Walks.{SoFar}
 
-abbrev pub invariant-loop-i : goal.invariant-loop-i
-invariant-loop-i l = Walking l.self l.i l.walked
-
-abbrev pub decreases-loop-i : goal.decreases-loop-i
-decreases-loop-i l = 64 - l.i
+-- the rows before `at` are walked over
+abbrev pub invariant-loop-at : goal.invariant-loop-at
+invariant-loop-at l = SoFar l.self l.at l.seen

@@ -1,11 +1,6 @@
-use mathlib.Core.Path.{◌≡◌}
-use Prim.Native.Nat.{◌-◌, ◌≤◌}
-use lib.ListN.{length}
 use Rattle.share.proofs.Written.{Writing}
 use Rattle.share.proofs.Table.write_lags.Given as goal
 
-abbrev pub invariant-loop-i : goal.invariant-loop-i
-invariant-loop-i l = (l.i ≤ 64) × (length l.list ≡ length l.initial.list) × Writing l.self l.initial.list l.i l.list
-
-abbrev pub decreases-loop-i : goal.decreases-loop-i
-decreases-loop-i l = 64 - l.i
+-- the entries before `at` are written
+abbrev pub invariant-loop-at : goal.invariant-loop-at
+invariant-loop-at l = Writing l.self l.initial.list l.at l.list
