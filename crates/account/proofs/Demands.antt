@@ -11,6 +11,7 @@ use Prim.Native.Nat.{ℕ, ◌*◌, ◌≤◌, ◌<◌, ◌+◌, ◌^◌}
 use lib.IntN.{ℤ, pos}
 use lib.ListN.{length, take}
 use lib.Signed.{mag}
+use Rattle.std.specs.Prelude.{Ok}
 use Rattle.laws.specs.Lists.{all}
 use Rattle.rows.specs.declared.Row.{Row}
 use Rattle.rows.specs.declared.Standing.{Standing}
@@ -134,7 +135,7 @@ pub refused_leaves_the_list : (t : Table) (lent : List ℤ) → number (lag_repl
 refused_leaves_the_list = Answering.refused_list
 
 -- 2. "Every accepted event gives the queue, slice"
-pub grants_rightly : (t : Table) → first_refusal (checks_of t Grant) ≡ none → (queue slice : ℕ) → (grant_reply t).answer ≡ Granted queue slice → Rightly t queue slice
+pub grants_rightly : (t : Table) → first_refusal (checks_of t Grant) ≡ none → (queue slice : ℕ) → (grant_reply t).answer ≡ Ok (Granted queue slice) → Rightly t queue slice
 grants_rightly = Granting.grant_rightly
 
 pub only_one_is_chosen : (t : Table) (i j : ℕ) → Chosen t i → Chosen t j → i ≡ j
@@ -185,7 +186,7 @@ lag_sign = Standing.lag_sign
 
 -- T-05: where a row stands, as the panel is told. Behind V is a lag above 0, level one of 0, ahead one below 0, and the number is the least by which V has to
 -- rise (`StandsAs`); the test whether V has reached a position is that it is not ahead
-pub standing_means : (t : Table) (queue : ℕ) (s : Standing) → (standing_reply t queue).answer ≡ Stands s → StandsAs t queue s
+pub standing_means : (t : Table) (queue : ℕ) (s : Standing) → (standing_reply t queue).answer ≡ Ok (Stands s) → StandsAs t queue s
 standing_means = Panel.standing_means
 
 pub reached_is_not_ahead : (h : Head) (position : ℕ) → (not_ahead (Head.standing_by h position) ≡ true) ↔ Head.AtMostV h position
@@ -209,7 +210,7 @@ length_means = Meaning.length_means
 
 -- "Grant. Among asking rows with opening at most V, the one with the least deadline; of equal deadlines, the lowest number. The answer is the number and the
 -- slice."
-pub grant_means : (t : Table) (queue slice : ℕ) → (step t Grant).answer ≡ Granted queue slice → Rightly t queue slice × GrantMeans t (step t Grant).table queue slice
+pub grant_means : (t : Table) (queue slice : ℕ) → (step t Grant).answer ≡ Ok (Granted queue slice) → Rightly t queue slice × GrantMeans t (step t Grant).table queue slice
 grant_means = Meaning.grant_means
 
 -- "Return. ... Position rises by used x step. If the request is used up or ended early, the next opens at the new position (equations 11 and 12). The slice is

@@ -13,6 +13,7 @@ use lib.Dec.{eqb}
 use lib.ListN.{length, get_or, take, drop, length-map, get_or-map, get_or-append}
 use lib.Seq.{take_at}
 use borrow.Author.Tests.{le-ltb, eq-eqb, ne_eqb}
+use Rattle.std.specs.Prelude.{Ok}
 use Rattle.laws.specs.Difference.{◌⊖◌}
 use Rattle.laws.specs.Lists.{sum_of}
 use Rattle.laws.proofs.Tests.{le_or_lt}
@@ -203,7 +204,7 @@ module _ (t : Table) (lent : List ℤ) (sound_table : Sound t) (rows_each : leng
 
   denominator_is : denominator_given (lag_reply t lent).answer ≡ lag_unit t.head
   unfolding lag_reply
-  denominator_is = rw (call_accepted (lag_checks t lent) t (record { answer = Reported (lag_unit t.head); table = t }) not_refused) refl
+  denominator_is = rw (call_accepted (lag_checks t lent) t (record { answer = Ok (Reported (lag_unit t.head)); table = t }) not_refused) refl
 
   pub reported_is : (i : ℕ) → i < queues → reported t lent i ≡ lag_in t i
   unfolding reported lag_in

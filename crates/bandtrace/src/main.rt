@@ -3,76 +3,101 @@
 #![tactic(auto)]
 
 use lines::State;
+use std::fmt;
 use std::io::{Read, Write};
 
 // How many bytes are read, and written, at a time.
 const BUFFER: usize = 65_536;
 
+// What is read and written, and the buffers that it passes through.
+#[derive(Drop)]
+struct Streams<'r, 'a> {
+    rt: &'r HostRuntime,
+    buf: &'a mut [u8],
+    out: &'a mut [u8],
+}
+
+// What can fail.
+#[derive(Clone, Copy)]
+enum Failure {
+    Reading,
+    Writing,
+}
+
+impl fmt::Display for Failure {
+    fn fmt<W: fmt::Write>(&self, f: &mut fmt::Formatter<W>) -> fmt::Result {
+        f.write_str(match self {
+            Failure::Reading => "reading failed",
+            Failure::Writing => "writing failed",
+        })
+    }
+}
+
 fn main(rt: HostRuntime) {
-    let mut buf = [0; BUFFER];
-    let mut out = [0; BUFFER];
-    if put_out(&rt, &lines::header()) {
-        run(&rt, &mut buf, &mut out);
-    }
-}
-
-// A proved loop has to end, and nothing says that input does: it takes as many turns as no run uses up.
-fn run(rt: &HostRuntime, buf: &mut [u8], out: &mut [u8]) {
-    let mut state = lines::begin();
-    for _ in 0..u64::MAX {
-        let Some(after) = next(rt, state, buf, out) else {
-            return;
-        };
-        state = after;
-    }
-}
-
-// Answers the whole lines that are held before it reads on. With no state there is nothing left to do.
-fn next(rt: &HostRuntime, state: State, buf: &mut [u8], out: &mut [u8]) -> Option<State> {
-    if state.more {
-        return advance(rt, state, buf, out);
-    }
-    if buf.len() <= state.have {
-        return None;
-    }
-    match rt.stdin().read(&mut buf[state.have..]) {
-        Ok(0) => {
-            last(rt, state, buf, out);
-            None
-        }
-        Ok(n) => Some(state.grown(n)),
-        Err(_) => {
-            failed(rt, "reading");
-            None
-        }
-    }
-}
-
-// One turn, and what it wrote goes out. A turn that leaves whole lines and writes nothing can only be the last.
-fn advance(rt: &HostRuntime, state: State, buf: &mut [u8], out: &mut [u8]) -> Option<State> {
-    let after = lines::turn(state, buf, out);
-    let goes_on = if after.written == 0 {
-        !after.more
-    } else {
-        put_out(rt, &out[..after.written])
+    let mut streams = Streams {
+        rt: &rt,
+        buf: &mut [0; BUFFER],
+        out: &mut [0; BUFFER],
     };
-    goes_on.then_some(after)
-}
-
-// The end of input: a line that has no newline counts.
-fn last(rt: &HostRuntime, state: State, buf: &mut [u8], out: &mut [u8]) {
-    let _ = advance(rt, lines::close(state, buf), buf, out);
-}
-
-fn put_out(rt: &HostRuntime, bytes: &[u8]) -> bool {
-    let is_written = rt.stdout().write_all(bytes).is_ok();
-    if !is_written {
-        failed(rt, "writing");
+    if let Err(failure) = streams.run() {
+        // There is nobody left to tell if standard error fails too.
+        let _ = eprintln!(rt; "bandtrace: {failure}");
     }
-    is_written
 }
 
-// There is nobody left to tell if standard error fails too.
-fn failed(rt: &HostRuntime, what: &str) {
-    let _ = eprintln!(rt; "bandtrace: {what} failed");
+impl Streams<'_, '_> {
+    // A proved loop has to end, and nothing says that input does: it takes as many turns as no run uses up.
+    fn run(&mut self) -> Result<(), Failure> {
+        put_out(self.rt, &lines::header())?;
+        let mut state = lines::begin();
+        for _ in 0..u64::MAX {
+            let Some(after) = self.next(state)? else {
+                return Ok(());
+            };
+            state = after;
+        }
+        Ok(())
+    }
+
+    // Answers the whole lines that are held before it reads on. With no state there is nothing left to do.
+    fn next(&mut self, state: State) -> Result<Option<State>, Failure> {
+        if state.more {
+            return self.advance(state);
+        }
+        if self.buf.len() <= state.have {
+            return Ok(None);
+        }
+        match self.rt.stdin().read(&mut self.buf[state.have..]) {
+            Ok(0) => {
+                self.last(state)?;
+                Ok(None)
+            }
+            Ok(n) => Ok(Some(state.grown(n))),
+            Err(_) => Err(Failure::Reading),
+        }
+    }
+
+    // One turn, and what it wrote goes out. A turn that leaves whole lines and writes nothing can only be the last.
+    fn advance(&mut self, state: State) -> Result<Option<State>, Failure> {
+        let after = lines::turn(state, self.buf, self.out);
+        if after.written == 0 {
+            return Ok((!after.more).then_some(after));
+        }
+        put_out(self.rt, &self.out[..after.written])?;
+        Ok(Some(after))
+    }
+
+    // The end of input: a line that has no newline counts.
+    fn last(&mut self, state: State) -> Result<(), Failure> {
+        let closed = lines::close(state, self.buf);
+        self.advance(closed)?;
+        Ok(())
+    }
+}
+
+fn put_out(rt: &HostRuntime, bytes: &[u8]) -> Result<(), Failure> {
+    match rt.stdout().write_all(bytes) {
+        Ok(()) => Ok(()),
+        Err(_) => Err(Failure::Writing),
+    }
 }

@@ -8,6 +8,7 @@ use Prim.Native.Nat.{ℕ, ◌≤◌, ◌<◌}
 use native.Mathlib.Omega.{arith}
 use lib.ListN.{length}
 use borrow.Author.Tests.{eq-eqb, ne_eqb, not-false}
+use Rattle.std.specs.Prelude.{Result, Ok}
 use Rattle.laws.proofs.Tests.{clash, le_or_lt}
 use Rattle.rows.specs.declared.Request.{Request}
 use Rattle.rows.specs.declared.State.{State}
@@ -19,6 +20,8 @@ use Rattle.rows.specs.Virtual.{eligible_as, eligible_at}
 use Rattle.rows.proofs.Orderly.{fits_says}
 use Rattle.rows.proofs.Shares.{orderly_weight}
 use Rattle.rows.proofs.Virtual.{reached_yes}
+use Rattle.head.specs.declared.Refusal.{Refusal}
+use Rattle.head.specs.declared.Answer.{Answer}
 use Rattle.head.specs.declared.Answer.TheVariants.{Granted}
 use Rattle.head.specs.declared.Event.TheVariants.{Grant}
 use Rattle.head.specs.declared.Head.{Head}
@@ -129,10 +132,10 @@ granted_rightly t g =
     }
 
 -- a grant that is not refused names such a queue, and only one queue is such
-pub grant_rightly : (t : Table) → first_refusal (checks_of t Grant) ≡ none → (queue slice : ℕ) → (grant_reply t).answer ≡ Granted queue slice → Rightly t queue slice
+pub grant_rightly : (t : Table) → first_refusal (checks_of t Grant) ≡ none → (queue slice : ℕ) → (grant_reply t).answer ≡ Ok (Granted queue slice) → Rightly t queue slice
 unfolding step
 grant_rightly t e queue slice is =
-    let told : Granted (chosen t) (slice_given t) ≡ Granted queue slice = sym (ap (λ (r : Reply). r.answer) (call_accepted (checks_of t Grant) t _ e)) ∙ is in
+    let told : ◌≡◌ {A = Result Answer Refusal} (Ok (Granted (chosen t) (slice_given t))) (Ok (Granted queue slice)) = sym (ap (λ (r : Reply). r.answer) (call_accepted (checks_of t Grant) t _ e)) ∙ is in
     let q : chosen t ≡ queue = cc in
     let s : slice_given t ≡ slice = cc in
     subst (λ (i : ℕ). Rightly t i slice) q (subst (Rightly t (chosen t)) s (granted_rightly t (grant_accepted t e)))

@@ -6,6 +6,7 @@ use mathlib.Core.Path.{◌≡◌, refl, ap, sym, subst, subst⁻¹, ◌∙◌}
 use Prim.Native.Nat.{ℕ, ◌+◌, ◌*◌, ◌≤◌, ◌<◌}
 use native.Mathlib.Omega.{arith}
 use lib.ListN.{length}
+use Rattle.std.specs.Prelude.{Result, Ok}
 use Rattle.laws.proofs.Tests.{clash}
 use Rattle.rows.specs.declared.Request.{Request}
 use Rattle.rows.specs.declared.Row.{Row}
@@ -16,6 +17,7 @@ use Rattle.rows.specs.Numbers.{queues}
 use Rattle.rows.specs.Requests.{opened, entering, next_set, row_next_set, served_to, served, charged}
 use Rattle.rows.specs.Row.{is_free, is_going, is_asking, weight_in, moment_in, charged_to}
 use Rattle.rows.proofs.Requests.{served_early, served_up, served_on}
+use Rattle.head.specs.declared.Answer.{Answer}
 use Rattle.head.specs.declared.Answer.TheVariants.{Granted}
 use Rattle.head.specs.declared.Event.{Event}
 use Rattle.head.specs.declared.Event.TheVariants.{Fresh, Join, Length, Grant, Return}
@@ -136,11 +138,11 @@ granted_means t =
       ticks_is = refl;
     }
 
-pub grant_means : (t : Table) (queue slice : ℕ) → (step t Grant).answer ≡ Granted queue slice → Rightly t queue slice × GrantMeans t (step t Grant).table queue slice
+pub grant_means : (t : Table) (queue slice : ℕ) → (step t Grant).answer ≡ Ok (Granted queue slice) → Rightly t queue slice × GrantMeans t (step t Grant).table queue slice
 grant_means t queue slice is =
     let e = accepted_none t Grant (ap number is) in
     let done = step_done t Grant e in
-    let told : Granted (chosen t) (slice_given t) ≡ Granted queue slice = sym (ap (λ (r : Reply). r.answer) done) ∙ is in
+    let told : ◌≡◌ {A = Result Answer Refusal} (Ok (Granted (chosen t) (slice_given t))) (Ok (Granted queue slice)) = sym (ap (λ (r : Reply). r.answer) done) ∙ is in
     let q : chosen t ≡ queue = cc in
     let s : slice_given t ≡ slice = cc in (
       grant_rightly t e queue slice is,

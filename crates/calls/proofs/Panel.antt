@@ -9,6 +9,7 @@ use native.Mathlib.Nat.{mul-le-mul_left}
 use native.Mathlib.Omega.{arith}
 use lib.IntN.{pos}
 use borrow.Author.Tests.{le-ltb}
+use Rattle.std.specs.Prelude.{Ok}
 use Rattle.laws.specs.Difference.{◌⊖◌}
 use Rattle.laws.proofs.Difference.{same_none}
 use Rattle.laws.proofs.Tests.{le_or_lt}
@@ -95,7 +96,7 @@ unfolding reached
 reached_not_ahead h position = (reached_yes position h.total h.sum, yes_reached position h.total h.sum)
 
 -- what the panel is told, it is told rightly
-pub standing_means : (t : Table) (queue : ℕ) (s : Standing) → (standing_reply t queue).answer ≡ Stands s → StandsAs t queue s
+pub standing_means : (t : Table) (queue : ℕ) (s : Standing) → (standing_reply t queue).answer ≡ Ok (Stands s) → StandsAs t queue s
 unfolding standing_reply p W A
 standing_means t queue s is = by (first_refusal (standing_checks t queue)) refl
   where

@@ -1,13 +1,14 @@
 -- What a bench case may say of one event: of its answer, and of the table that it leaves.
-use Rattle.std.specs.Prelude.{Bool, true, false, not, ◌&&◌, List, [], ◌∷◌, ◌++◌, ℕ, eqb, ℤ, pos, negsuc, neg_ℤ, ◌*ℤ◌}
+use Rattle.std.specs.Prelude.{Bool, true, false, not, ◌&&◌, List, [], ◌∷◌, ◌++◌, ℕ, eqb, ℤ, pos, negsuc, neg_ℤ, ◌*ℤ◌, Result, Ok, Err}
 use Rattle.laws.specs.Lists.{all}
 use Rattle.rows.specs.declared.Row.{Row}
 use Rattle.rows.specs.declared.State.{State}
 use Rattle.rows.specs.declared.State.TheVariants.{Free, Going, Asking}
 use Rattle.rows.specs.Numbers.{default_length}
 use Rattle.rows.specs.Row.{is_free, is_going}
+use Rattle.head.specs.declared.Refusal.{Refusal}
 use Rattle.head.specs.declared.Answer.{Answer}
-use Rattle.head.specs.declared.Answer.TheVariants.{Accepted, Granted, Reported, Stands, Refused}
+use Rattle.head.specs.declared.Answer.TheVariants.{Accepted, Granted, Reported, Stands}
 use Rattle.head.specs.declared.Event.{Event}
 use Rattle.head.specs.declared.Event.TheVariants.{Fresh}
 use Rattle.head.specs.Answers.{number}
@@ -68,12 +69,12 @@ begins (a ∷ more) (x ∷ xs) = same a x && begins more xs
 abbrev pub equals : Fraction → Fraction → Bool
 equals (a over b) (c over d) = same (a *ℤ pos d) (c *ℤ pos b)
 
-abbrev pub is_grant_of : Answer → ℕ → ℕ → Bool
-is_grant_of Accepted queue slice = false
-is_grant_of (Granted q s) queue slice = eqb q queue && eqb s slice
-is_grant_of (Reported d) queue slice = false
-is_grant_of (Stands s) queue slice = false
-is_grant_of (Refused why) queue slice = false
+abbrev pub is_grant_of : Result Answer Refusal → ℕ → ℕ → Bool
+is_grant_of (Ok Accepted) queue slice = false
+is_grant_of (Ok (Granted q s)) queue slice = eqb q queue && eqb s slice
+is_grant_of (Ok (Reported d)) queue slice = false
+is_grant_of (Ok (Stands s)) queue slice = false
+is_grant_of (Err why) queue slice = false
 
 -- every number that stands in a table, to compare two tables by
 abbrev pub state_numbers : State → List ℕ

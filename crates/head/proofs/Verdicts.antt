@@ -4,9 +4,16 @@ use mathlib.Core.Bool.{Bool, true, false}
 use mathlib.Core.List.{List, [], ◌∷◌}
 use mathlib.Core.Option.{Option, none, some}
 use Rattle.std.specs.Result.{result_and}
-use Rattle.std.specs.Prelude.{Result, Ok, Err, ⊤}
+use Rattle.std.specs.Bool.{then_some}
+use Rattle.std.specs.Prelude.{Result, Ok, Err, ⊤, is_some}
+use Rattle.rows.specs.declared.Row.{Row}
+use Rattle.rows.specs.Row.{blank}
+use Rattle.head.specs.declared.Event.{Event}
+use Rattle.head.specs.declared.Event.TheVariants.{Fresh, Join, Leave, Reweight, Length, Grant, Return}
+use Rattle.head.specs.declared.Head.{Head}
 use Rattle.head.specs.declared.Refusal.{Refusal}
-use Rattle.head.specs.Refusals.{Check, ◌when◌, first_refusal, verdict_of, refused_when}
+use Rattle.head.specs.Judged.{row_in}
+use Rattle.head.specs.Refusals.{Check, ◌when◌, first_refusal, verdict_of, refused_when, checks_for, verdict_for}
 
 -- one check after another
 abbrev pub judge : List Check → Result ⊤ Refusal
@@ -31,3 +38,18 @@ fine_none (some w) e = cc
 pub not_applies : (why : Refusal) (applies : Bool) → refused_when why applies ≡ Ok tt → applies ≡ false
 not_applies why true e = cc
 not_applies why false e = refl
+
+-- of a table that is not sound nothing is asked, whatever the row is
+unsound_first : (h : Head) (r other : Row) (e : Event) → verdict_for false h r e ≡ verdict_for false h other e
+unfolding verdict_for checks_for
+unsound_first h r other (Fresh terms) = refl
+unsound_first h r other (Join queue weight length) = refl
+unsound_first h r other (Leave queue) = refl
+unsound_first h r other (Reweight queue weight length) = refl
+unsound_first h r other (Length queue length) = refl
+unsound_first h r other Grant = refl
+unsound_first h r other (Return queue used early) = refl
+
+pub verdict_then : (sound : Bool) (h : Head) (r : Row) (e : Event) → verdict_for (is_some (then_some sound r)) h (row_in (then_some sound r)) e ≡ verdict_for sound h r e
+verdict_then true h r e = refl
+verdict_then false h r e = unsound_first h blank r e

@@ -1,12 +1,12 @@
 -- What a walk over the rows and the head tell together, and what the functions of the head ask for. Nothing here is promised to a user.
-use Rattle.std.specs.Prelude.{◌≡◌, Bool, true, cond, [], ◌∷◌, ◌*◌, ◌≤◌, ◌<◌, eqb, Option, Some, None, option_map}
+use Rattle.std.specs.Prelude.{◌≡◌, Bool, true, cond, [], ◌∷◌, ◌*◌, ◌≤◌, ◌<◌, eqb, Option, Some, None, option_map, is_some, unwrap_or}
 use Rattle.laws.specs.Lists.{every}
 use Rattle.rows.specs.declared.Request.{Request}
 use Rattle.rows.specs.declared.Row.{Row}
 use Rattle.rows.specs.declared.looking.First.{First}
 use Rattle.rows.specs.declared.looking.Seen.{Seen}
 use Rattle.rows.specs.Numbers.{max_total, max_length, ceiling}
-use Rattle.rows.specs.Row.{moment_in}
+use Rattle.rows.specs.Row.{blank, moment_in}
 use Rattle.rows.specs.Orderly.{OrderlyRow, Allowed, allowed}
 use Rattle.rows.specs.Fits.{Exchanging}
 use Rattle.head.specs.declared.Head.{Head}
@@ -36,10 +36,13 @@ pub record Surveying (h : Head) (s : Seen) (r : Row) : Type 0 where
   pub orderly : whole h s ≡ true → OrderlyRow r
   pub total_high : whole h s ≡ true → h.total ≤ max_total
 
--- of a table that may not be sound nothing is asked
-pub record Judging (sound : Bool) (h : Head) (r : Row) : Type 0 where
-  pub orderly : sound ≡ true → OrderlyRow r
-  pub total_high : sound ≡ true → h.total ≤ max_total
+-- the row that decides on an event, of a sound table; of another there is none, and its place is taken by a blank one that nobody looks at
+abbrev pub row_in : Option Row → Row
+row_in row = unwrap_or row blank
+
+pub record Judging (h : Head) (row : Option Row) : Type 0 where
+  pub orderly : OrderlyRow (row_in row)
+  pub total_high : is_some row ≡ true → h.total ≤ max_total
 
 -- one row for another, whose shares fit
 pub record Replacing (h : Head) (old new : Row) : Type 0 where

@@ -1,5 +1,5 @@
 // What each event is refused for, in its order: the first refusal that applies answers.
-ghost use Rattle.std.specs.Prelude.{◌≡◌, ◌≤◌};
+ghost use Rattle.std.specs.Prelude.{◌≡◌, ◌≤◌, is_some};
 ghost use Rattle.rows.specs.Numbers.{max_total};
 ghost use Rattle.rows.specs.Orderly.{OrderlyRow, limit_outside, rule_outside, default_outside};
 ghost use Rattle.head.specs.declared.Event.TheVariants.{Grant, Join, Leave, Length, Reweight};
@@ -9,7 +9,7 @@ ghost use Rattle.head.specs.Refusals as checks;
 
 use crate::surveying::fits_ceiling;
 use crate::{Event, Head, Refusal};
-use rows::{Row, State, Terms, is_asking, is_free, outside};
+use rows::{Row, State, Terms, outside};
 
 // As the documents number them.
 impl From<Refusal> for u64 {
@@ -48,11 +48,12 @@ impl Refusal {
 }
 
 impl Head {
-    // What speaks against an event, in the order in which it is looked for. The row is that of the queue that decides on it.
+    // What speaks against an event, in the order in which it is looked for. The row is that of the queue that decides on it, and there is one only if the
+    // table is sound: of one that is not, nothing is asked.
     #[tactic(auto, unfolding(crate::specs::Refusals::verdict_for, crate::specs::Refusals::checks_for))]
-    pub fn verdict(self, event: Event, sound: bool, row: Row) -> Result<(), Refusal>
-        requires { judged.Judging sound self row }
-        ensures { result ≡ checks.verdict_for sound self row event }
+    pub fn verdict(self, event: Event, row: Option<Row>) -> Result<(), Refusal>
+        requires { judged.Judging self row }
+        ensures { result ≡ checks.verdict_for (is_some row) self (judged.row_in row) event }
     {
         match event {
             Event::Fresh { terms } => fresh_verdict(terms),
@@ -60,95 +61,93 @@ impl Head {
                 queue,
                 weight,
                 length,
-            } => self.join_verdict(sound, row, queue, weight, length),
-            Event::Leave { queue } => self.leave_verdict(sound, row, queue),
+            } => self.join_verdict(row, queue, weight, length),
+            Event::Leave { queue } => self.leave_verdict(row, queue),
             Event::Reweight {
                 queue,
                 weight,
                 length,
-            } => self.reweight_verdict(sound, row, queue, weight, length),
-            Event::Length { queue, length } => self.length_verdict(sound, row, queue, length),
-            Event::Grant => self.grant_verdict(sound, row),
-            Event::Return { queue, used, .. } => self.return_verdict(sound, queue, used),
+            } => self.reweight_verdict(row, queue, weight, length),
+            Event::Length { queue, length } => self.length_verdict(row, queue, length),
+            Event::Grant => self.grant_verdict(row),
+            Event::Return { queue, used, .. } => self.return_verdict(row, queue, used),
         }
     }
 
     #[tactic(auto, unfolding(crate::specs::Refusals::verdict_for, crate::specs::Refusals::checks_for, crate::specs::Refusals::row_taken))]
     fn join_verdict(
         self,
-        sound: bool,
-        row: Row,
+        row: Option<Row>,
         queue: u64,
         weight: u64,
         length: u64,
     ) -> Result<(), Refusal>
-        ensures { result ≡ checks.verdict_for sound self row (Join queue weight length) }
+        ensures { result ≡ checks.verdict_for (is_some row) self (judged.row_in row) (Join queue weight length) }
     {
-        Refusal::Unsound.when(!sound)?;
+        let row = row.ok_or(Refusal::Unsound)?;
         Refusal::QueueOutside.when(queue_outside(queue))?;
         Refusal::WeightOutside.when(weight_outside(weight))?;
         Refusal::LengthOutside.when(length_outside(length))?;
         Refusal::SliceOut.when(self.out)?;
-        Refusal::RowTaken.when(!is_free(row))
+        Refusal::RowTaken.when(!row.is_free())
     }
 
     #[tactic(auto, unfolding(crate::specs::Refusals::verdict_for, crate::specs::Refusals::checks_for, crate::specs::Refusals::not_asking))]
-    fn leave_verdict(self, sound: bool, row: Row, queue: u64) -> Result<(), Refusal>
-        ensures { result ≡ checks.verdict_for sound self row (Leave queue) }
+    fn leave_verdict(self, row: Option<Row>, queue: u64) -> Result<(), Refusal>
+        ensures { result ≡ checks.verdict_for (is_some row) self (judged.row_in row) (Leave queue) }
     {
-        Refusal::Unsound.when(!sound)?;
+        let row = row.ok_or(Refusal::Unsound)?;
         Refusal::QueueOutside.when(queue_outside(queue))?;
         Refusal::SliceOut.when(self.out)?;
-        Refusal::NotAsking.when(!is_asking(row))
+        Refusal::NotAsking.when(!row.is_asking())
     }
 
     #[tactic(auto, unfolding(crate::specs::Refusals::verdict_for, crate::specs::Refusals::checks_for, crate::specs::Refusals::not_asking))]
     fn reweight_verdict(
         self,
-        sound: bool,
-        row: Row,
+        row: Option<Row>,
         queue: u64,
         weight: u64,
         length: u64,
     ) -> Result<(), Refusal>
-        requires { judged.Judging sound self row }
-        ensures { result ≡ checks.verdict_for sound self row (Reweight queue weight length) }
+        requires { judged.Judging self row }
+        ensures { result ≡ checks.verdict_for (is_some row) self (judged.row_in row) (Reweight queue weight length) }
     {
-        Refusal::Unsound.when(!sound)?;
+        let row = row.ok_or(Refusal::Unsound)?;
         Refusal::QueueOutside.when(queue_outside(queue))?;
         Refusal::WeightOutside.when(weight_outside(weight))?;
         Refusal::LengthOutside.when(length_outside(length))?;
         Refusal::SliceOut.when(self.out)?;
-        Refusal::NotAsking.when(!is_asking(row))?;
+        Refusal::NotAsking.when(!row.is_asking())?;
         Refusal::LagBelow.when(self.lag_below(row))
     }
 
     #[tactic(auto, unfolding(crate::specs::Refusals::verdict_for, crate::specs::Refusals::checks_for, crate::specs::Refusals::not_asking))]
-    fn length_verdict(self, sound: bool, row: Row, queue: u64, length: u64) -> Result<(), Refusal>
-        ensures { result ≡ checks.verdict_for sound self row (Length queue length) }
+    fn length_verdict(self, row: Option<Row>, queue: u64, length: u64) -> Result<(), Refusal>
+        ensures { result ≡ checks.verdict_for (is_some row) self (judged.row_in row) (Length queue length) }
     {
-        Refusal::Unsound.when(!sound)?;
+        let row = row.ok_or(Refusal::Unsound)?;
         Refusal::QueueOutside.when(queue_outside(queue))?;
         Refusal::LengthOutside.when(length_outside(length))?;
         Refusal::SliceOut.when(self.out)?;
-        Refusal::NotAsking.when(!is_asking(row))
+        Refusal::NotAsking.when(!row.is_asking())
     }
 
     #[tactic(auto, unfolding(crate::specs::Refusals::verdict_for, crate::specs::Refusals::checks_for, crate::specs::Head::is_empty))]
-    fn grant_verdict(self, sound: bool, row: Row) -> Result<(), Refusal>
-        requires { judged.Judging sound self row }
-        ensures { result ≡ checks.verdict_for sound self row Grant }
+    fn grant_verdict(self, row: Option<Row>) -> Result<(), Refusal>
+        requires { judged.Judging self row }
+        ensures { result ≡ checks.verdict_for (is_some row) self (judged.row_in row) Grant }
     {
-        Refusal::Unsound.when(!sound)?;
+        let row = row.ok_or(Refusal::Unsound)?;
         Refusal::SliceOut.when(self.out)?;
         Refusal::TableEmpty.when(self.total == 0)?;
         Refusal::CeilingPassed.when(ceiling_passed(row))
     }
 
-    fn return_verdict(self, sound: bool, queue: u64, used: u64) -> Result<(), Refusal>
-        ensures { result ≡ checks.verdict_of (checks.first_refusal (checks.return_checks sound self queue used)) }
+    fn return_verdict(self, row: Option<Row>, queue: u64, used: u64) -> Result<(), Refusal>
+        ensures { result ≡ checks.verdict_of (checks.first_refusal (checks.return_checks (is_some row) self queue used)) }
     {
-        Refusal::Unsound.when(!sound)?;
+        Refusal::Unsound.when(row.is_none())?;
         Refusal::QueueOutside.when(queue_outside(queue))?;
         Refusal::NotHolder.when(self.not_holder(queue))?;
         Refusal::TicksOutside.when(ticks_outside(self.ticks, used))
@@ -180,12 +179,12 @@ fn fresh_verdict(terms: Terms) -> Result<(), Refusal>
 }
 
 // What speaks against telling where a row stands.
-pub fn standing_verdict(sound: bool, row: Row, queue: u64) -> Result<(), Refusal>
-    ensures { result ≡ checks.verdict_of (checks.first_refusal (checks.standing_checks sound row queue)) }
+pub fn standing_verdict(row: Option<Row>, queue: u64) -> Result<(), Refusal>
+    ensures { result ≡ checks.verdict_of (checks.first_refusal (checks.standing_checks (is_some row) (judged.row_in row) queue)) }
 {
-    Refusal::Unsound.when(!sound)?;
+    let row = row.ok_or(Refusal::Unsound)?;
     Refusal::QueueOutside.when(queue_outside(queue))?;
-    Refusal::RowFree.when(is_free(row))
+    Refusal::RowFree.when(row.is_free())
 }
 
 // The deadline of the row that a grant would go to is above the ceiling.
@@ -199,6 +198,8 @@ fn ceiling_passed(row: Row) -> bool
         _ => false,
     }
 }
+
+// The tests of the refusals, each under its name: those of a range are `outside` with its bounds.
 
 #[tactic(auto, unfolding(crate::specs::Refusals::queue_outside))]
 fn queue_outside(queue: u64) -> bool

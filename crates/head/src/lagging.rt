@@ -9,11 +9,12 @@ use crate::Head;
 use rows::Row;
 
 // Exact below, at and above zero: both parts are at most 2 to the 62nd.
+#[tactic(auto, using(laws::proofs::Difference::minus_pos, laws::proofs::Difference::difference_mag))]
 fn difference(due: u64, had: u64) -> i64
     requires { (due ≤ 2 ^ 62) × (had ≤ 2 ^ 62) }
     ensures { result ≡ due ⊖ had }
 {
-    due as i64 - had as i64
+    due.checked_signed_diff(had).unwrap()
 }
 
 impl Head {

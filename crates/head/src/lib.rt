@@ -17,7 +17,8 @@ use rows::{Standing, Terms};
 pub use surveying::Survey;
 
 // W is total and A is sum; resting is where V stands while no row is present, and zero while one is; holder and ticks are those of the slice that is
-// out, and zero when none is. No `Option` of the two: a table that is not sound may have any three, and goes back as it came.
+// out, and zero when none is. No `Option` of the two: a table that is not sound may have any three, and goes back as it came. So
+// it may weigh anything: that it weighs no more than its rows can is a fact of a sound one.
 #[derive(Clone, Copy)]
 pub struct Head {
     pub total: u64,
@@ -51,13 +52,13 @@ pub enum Refusal {
     DefaultOutside,
 }
 
+// What a call that is not refused answers.
 #[derive(Clone, Copy)]
 pub enum Answer {
     Accepted,
     Granted { queue: u64, slice: u64 },
     Reported { denominator: u64 },
     Stands(Standing),
-    Refused(Refusal),
 }
 
 #[derive(Clone, Copy)]
@@ -90,34 +91,34 @@ pub enum Event {
     },
 }
 
-// The answer to a line that asks for nothing that there is.
+// The answer to a line that asks for nothing that there is. A number, as it is printed: no call gives it, so it is no `Refusal`.
 pub const BROKEN: u64 = 15;
 
-// The queue that a slice is granted to, and the slice.
+// The queue that a slice is granted to, and the slice: as `Answer::Granted` has them, whose two numbers theorems name.
 #[derive(Clone, Copy)]
 pub struct Grant {
     pub queue: u64,
     pub slice: u64,
 }
 
-// An answer in numbers: which, and what was granted if anything was.
+// An answer in numbers, as it is printed: which, and what was granted if anything was.
 #[derive(Clone, Copy)]
 pub struct Shown {
     pub answer: u64,
     pub grant: Option<Grant>,
 }
 
-impl Answer {
-    pub fn shown(self) -> Shown
-        ensures { result ≡ shown_as self }
-    {
-        match self {
-            Answer::Accepted | Answer::Reported { .. } | Answer::Stands(_) => Shown::plain(0),
-            Answer::Granted { queue, slice } => Shown {
+impl From<Result<Answer, Refusal>> for Shown {
+    ghost from_gives = { λ answer shown. shown ≡ shown_as answer };
+
+    fn from(answer: Result<Answer, Refusal>) -> Shown {
+        match answer {
+            Ok(Answer::Granted { queue, slice }) => Shown {
                 answer: 0,
                 grant: Some(Grant { queue, slice }),
             },
-            Answer::Refused(why) => Shown::plain(why.into()),
+            Ok(Answer::Accepted | Answer::Reported { .. } | Answer::Stands(_)) => Shown::plain(0),
+            Err(why) => Shown::plain(why.into()),
         }
     }
 }
@@ -135,7 +136,8 @@ impl Shown {
 }
 
 impl Event {
-    // The queue whose row decides on the event: the one that it names, or for a grant the one that it would go to; 0 for a fresh table.
+    // The queue whose row decides on the event: the one that it names, or for a grant the one that it would go to; 0 for a fresh table, as the definition
+    // `concerns` has it.
     pub fn concerns(self, chosen: u64) -> u64
         ensures { result ≡ heads.concerns chosen self }
     {

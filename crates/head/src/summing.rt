@@ -5,7 +5,7 @@ ghost use Rattle.head.specs.Rest as rests;
 
 use crate::Head;
 use crate::resting::rest_after;
-use rows::{Row, exchanged, moment};
+use rows::{Row, exchanged};
 
 impl Head {
     // The old row's share leaves W and A, the new row's enters; where no row is left, the table rests where the old one stood.
@@ -17,7 +17,7 @@ impl Head {
         let total = exchanged(self.total, old.weight, new.weight);
         Head {
             total,
-            sum: exchanged(self.sum, moment(old), moment(new)),
+            sum: exchanged(self.sum, old.moment(), new.moment()),
             resting: rest_after(total, old.position),
             ..self
         }

@@ -42,7 +42,7 @@ fn slice_most(terms: Terms, q: Request) -> u64
     terms.limit.min(q.length - q.served)
 }
 
-// And the shortest.
+// And the shortest: today the same number, but the definitions are two, and each is tested by its own.
 #[tactic(auto, unfolding(rows::specs::Orderly::slice_least))]
 fn slice_least(terms: Terms, q: Request) -> u64
     requires { q.served ≤ q.length }

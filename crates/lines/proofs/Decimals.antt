@@ -69,7 +69,7 @@ module _ (n v : ℕ) (f : List ℕ) where
     where
       by : (t : Bool) → every (tests n v f) ≡ t → cond t (Some (value_from v f)) None ≡ Some w → EndsDecimal n v f × (value_from v f ≡ w)
       by true t h = (tests_say t, cc)
-      by false t h = let z : ◌≡◌ {A = ℕ} 0 1 = cc in absurd (omega arith)
+      by false t h = cc
 
   refuse : (EndsDecimal n v f → ⊥) → contd n v f ≡ None
   unfolding contd
@@ -143,9 +143,6 @@ reached_first s at h =
     record { low = omega arith; high = h; few = omega arith; none_made = λ e. refl; small = rw none_yet (omega arith); decides = rw (decimal_contd, none_yet) }
 
 module _ {s : List ℕ} {at v i : ℕ} (r : Reached s at v i) where
-  pub below_six_digits : v < 100000
-  below_six_digits = five_digits (i - at) v r.small (omega (arith, r.few))
-
   -- the field ends here
   stops : before space (drop i s) ≡ [] → field_at s at ≡ finished_as at i v
   unfolding go_on finished_as

@@ -59,14 +59,11 @@ wrote_both {l} {m} {n} {at} {p} {q} {xs} {ys} a b =
 pub wrote_length : {l m : List ℕ} {at p : ℕ} {xs : List ℕ} → Wrote l at xs m p → length m ≡ length l
 wrote_length {l} {m} {at} {p} {xs} a = ap length a.stand ∙ length-sets l at xs
 
--- a part of the buffer overwritten, and one byte
+-- a part of the buffer overwritten
 pub wrote_part : (l : List ℕ) (at : ℕ) (xs : List ℕ) {ys : List ℕ} → ys ≡ xs → at + length xs ≤ length l
     → Wrote l at xs (put_mid at (at + length xs - at) l ys) (at + length xs)
 wrote_part l at xs e h =
     record { place = refl; stand = rw (e, Post-is at (at + length xs) l (omega arith), sets-eq xs l at h, append_assoc) }
-
-pub wrote_byte : (l : List ℕ) (at b : ℕ) → Wrote l at (b ∷ []) (set l at b) (at + 1)
-wrote_byte l at b = record { place = refl; stand = refl }
 
 digits_most_in : (k n : ℕ) → length (digits_in k n) ≤ suc k
 unfolding digits_in

@@ -9,7 +9,7 @@ use lib.Dec.{eqb}
 use lib.ListN.{length, drop, get_or, length-drop}
 use lib.Seq.{drop-drop}
 use borrow.Author.Tests.{le-leb, lt-leb, eqb-true, eq-eqb, ne_eqb}
-use Rattle.std.proofs.lemmas.Option.{none-some, same_Some}
+use Rattle.std.proofs.lemmas.Option.{none-some}
 use Rattle.lines.specs.declared.reading.Field.{Field}
 use Rattle.lines.specs.Cut.{space, part, cut_at, before, fields_of}
 use Rattle.lines.specs.Decimal.{decimal}
@@ -63,14 +63,9 @@ long_name (b ∷ x ∷ s) k h n = within (b ∷ x ∷ s) k ∙ rw (ne_eqb x spac
     by false (p ∷ ps) = refl
 
 -- a line whose first field is one letter, with more to come
-pub record Lettered (s : List ℕ) : Type 0 where
-  pub short : length s ≤ 40
-  pub two : 2 ≤ length s
-  pub gap : get_or s 1 0 ≡ space
-
-opened : {s : List ℕ} → Lettered s → read_line s ≡ event_if (get_or s 0 0) (numbers (fields_of (drop 2 s)))
+opened : (s : List ℕ) → length s ≤ 40 → 2 ≤ length s → get_or s 1 0 ≡ space → read_line s ≡ event_if (get_or s 0 0) (numbers (fields_of (drop 2 s)))
 unfolding event_in event_named cut_at
-opened {s} l = within s l.short ∙ by s l.two l.gap
+opened s short two gap = within s short ∙ by s two gap
   where
     by : (l : List ℕ) → 2 ≤ length l → get_or l 1 0 ≡ space → event_in (fields_of l) ≡ event_if (get_or l 0 0) (numbers (fields_of (drop 2 l)))
     by [] h e = absurd (omega arith)
@@ -92,9 +87,7 @@ module _ (s : List ℕ) (at : ℕ) where
     where
       by : (o : Option ℕ) → field_as o (at + length here) ≡ Some f → (o ≡ Some f.value) × (at + length here ≡ f.end)
       by None h = absurd (none-some f h)
-      by (Some w) h =
-          let same : record { value = w; end = at + length here } ≡ f = same_Some (record { value = w; end = at + length here }) f h in
-          (ap (λ (x : Field). Some x.value) same, ap (λ (x : Field). x.end) same)
+      by (Some w) h = (cc, cc)
 
   missing : field_at s at ≡ None → decimal here ≡ None
   unfolding field_at
@@ -102,7 +95,7 @@ module _ (s : List ℕ) (at : ℕ) where
     where
       by : (o : Option ℕ) → field_as o (at + length here) ≡ None → o ≡ None
       by None h = refl
-      by (Some w) h = absurd (none-some (record { value = w; end = at + length here }) (sym h))
+      by (Some w) h = cc
 
   module _ (h : at ≤ length s) {f : Field} (is : field_at s at ≡ Some f) where
     pub ends_within : f.end ≤ length s
@@ -138,50 +131,58 @@ too_many k a b c l = let p = cut_first space l in rw p.1 (by (decimal (before sp
     by (Some d) None = refl
     by (Some d) (Some ns) = refl
 
--- the line by the fields found in it: a number with more to come after it, and a second
-pub record OneFound (s : List ℕ) (a : Field) : Type 0 where
-  pub lettered : Lettered s
-  pub first : field_at s 2 ≡ Some a
-  pub more : a.end < length s
-
-pub record TwoFound (s : List ℕ) (a b : Field) : Type 0 where
-  pub one : OneFound s a
-  pub second : field_at s (a.end + 1) ≡ Some b
-  pub more : b.end < length s
-
-module _ {s : List ℕ} (l : Lettered s) where
+-- the line by the fields found in it: what each of them says of the whole, with more to come after it or none
+module _ (s : List ℕ) (short : length s ≤ 40) (two : 2 ≤ length s) (gap : get_or s 1 0 ≡ space) where
   pub no_first : field_at s 2 ≡ None → read_line s ≡ None
   unfolding event_if
-  no_first f = rw (opened l, field_none s 2 f)
+  no_first f = rw (opened s short two gap, field_none s 2 f)
 
-  pub one_number : {a : Field} → field_at s 2 ≡ Some a → a.end ≡ length s → read_line s ≡ event_of (get_or s 0 0) (a.value ∷ [])
-  unfolding event_if
-  one_number f e = rw (opened l, field_last s 2 l.two f e)
+  module _ {a : Field} (first : field_at s 2 ≡ Some a) where
+    a_within : a.end ≤ length s
+    a_within = ends_within s 2 two first
 
-module _ {s : List ℕ} {a : Field} (o : OneFound s a) where
-  after_one : read_line s ≡ event_if (get_or s 0 0) (both (Some a.value) (numbers (fields_of (drop (a.end + 1) s))))
-  after_one = rw (opened o.lettered, field_more s 2 o.lettered.two o.first o.more)
+    pub one_number : a.end ≡ length s → {k : ℕ} → k ≡ get_or s 0 0 → read_line s ≡ event_of k (a.value ∷ [])
+    unfolding event_if
+    one_number e is = rw (is, opened s short two gap, field_last s 2 two first e)
 
-  pub no_second : field_at s (a.end + 1) ≡ None → read_line s ≡ None
-  unfolding event_if
-  no_second g = rw (after_one, field_none s (a.end + 1) g)
+    module _ (more : a.end ≡ length s → ⊥) where
+      after_one : read_line s ≡ event_if (get_or s 0 0) (both (Some a.value) (numbers (fields_of (drop (a.end + 1) s))))
+      after_one = rw (opened s short two gap, field_more s 2 two first (omega (arith, a_within, more)))
 
-  pub two_numbers : {b : Field} → field_at s (a.end + 1) ≡ Some b → b.end ≡ length s → read_line s ≡ event_of (get_or s 0 0) (a.value ∷ b.value ∷ [])
-  unfolding event_if
-  two_numbers g e = rw (after_one, field_last s (a.end + 1) (omega (arith, o.more)) g e)
+      pub second_starts : a.end + 1 ≤ length s
+      second_starts = omega (arith, a_within, more)
 
-module _ {s : List ℕ} {a b : Field} (t : TwoFound s a b) where
-  after_two : read_line s ≡ event_if (get_or s 0 0) (both (Some a.value) (both (Some b.value) (numbers (fields_of (drop (b.end + 1) s)))))
-  after_two = rw (after_one t.one, field_more s (a.end + 1) (omega (arith, t.one.more)) t.second t.more)
+      pub no_second : field_at s (a.end + 1) ≡ None → read_line s ≡ None
+      unfolding event_if
+      no_second f = rw (after_one, field_none s (a.end + 1) f)
 
-  pub no_third : field_at s (b.end + 1) ≡ None → read_line s ≡ None
-  unfolding event_if
-  no_third h = rw (after_two, field_none s (b.end + 1) h)
+      module _ {b : Field} (second : field_at s (a.end + 1) ≡ Some b) where
+        b_within : b.end ≤ length s
+        b_within = ends_within s (a.end + 1) second_starts second
 
-  pub three_numbers : {c : Field} → field_at s (b.end + 1) ≡ Some c → c.end ≡ length s → read_line s ≡ event_of (get_or s 0 0) (a.value ∷ b.value ∷ c.value ∷ [])
-  unfolding event_if
-  three_numbers h e = rw (after_two, field_last s (b.end + 1) (omega (arith, t.more)) h e)
+        pub two_numbers : b.end ≡ length s → {k : ℕ} → k ≡ get_or s 0 0 → read_line s ≡ event_of k (a.value ∷ b.value ∷ [])
+        unfolding event_if
+        two_numbers e is = rw (is, after_one, field_last s (a.end + 1) second_starts second e)
 
-  pub four_fields : {c : Field} → field_at s (b.end + 1) ≡ Some c → c.end < length s → read_line s ≡ None
-  four_fields {c} h e =
-      rw (after_two, field_more s (b.end + 1) (omega (arith, t.more)) h e) (too_many (get_or s 0 0) a.value b.value c.value (drop (c.end + 1) s))
+        module _ (goes_on : b.end ≡ length s → ⊥) where
+          after_two : read_line s ≡ event_if (get_or s 0 0) (both (Some a.value) (both (Some b.value) (numbers (fields_of (drop (b.end + 1) s)))))
+          after_two = rw (after_one, field_more s (a.end + 1) second_starts second (omega (arith, b_within, goes_on)))
+
+          pub third_starts : b.end + 1 ≤ length s
+          third_starts = omega (arith, b_within, goes_on)
+
+          pub no_third : field_at s (b.end + 1) ≡ None → read_line s ≡ None
+          unfolding event_if
+          no_third f = rw (after_two, field_none s (b.end + 1) f)
+
+          module _ {c : Field} (third : field_at s (b.end + 1) ≡ Some c) where
+            pub three_numbers : c.end ≡ length s → {k : ℕ} → k ≡ get_or s 0 0 → read_line s ≡ event_of k (a.value ∷ b.value ∷ c.value ∷ [])
+            unfolding event_if
+            three_numbers e is = rw (is, after_two, field_last s (b.end + 1) third_starts third e)
+
+            pub four_fields : (c.end ≡ length s → ⊥) → read_line s ≡ None
+            four_fields n =
+                let inside : c.end ≤ length s = ends_within s (b.end + 1) third_starts third in
+                rw (after_two, field_more s (b.end + 1) third_starts third (omega arith)) (too_many (get_or s 0 0) a.value b.value c.value (drop (c.end + 1) s))
+
+pub ruleset stages = (overlong, empty_line, one_byte, long_name, no_first, one_number, second_starts, no_second, two_numbers, third_starts, no_third, three_numbers, four_fields)

@@ -6,7 +6,7 @@ pub mod Decimals
 pub mod Fields
 -- what a letter and its numbers name
 pub mod Naming
--- digits counted, filled from the end and put into a buffer
+-- digits, and what is put into a buffer one after the other
 pub mod Digits
 -- a field is a decimal exactly when it is the digits of a number
 pub mod Decimal

@@ -15,6 +15,7 @@ use Rattle.rows.specs.declared.Terms.{Terms}
 use Rattle.rows.specs.Numbers.{default_length}
 use Rattle.head.specs.declared.Event.{Event}
 use Rattle.head.specs.declared.Event.TheVariants.{Fresh, Join, Leave, Reweight, Length, Grant, Return}
+use Rattle.std.proofs.lemmas.Option.{none-some}
 use Rattle.lines.specs.Cut.{space, part, cut_at, before, fields_of}
 use Rattle.lines.specs.Decimal.{digit, decimal, digits}
 use Rattle.lines.specs.Grammar.{letter_s, letter_j, letter_l, letter_w, letter_r, letter_g, letter_u, return_of, fresh_of, event_of, both, numbers, event_if, event_named, event_in, read_line, spaced, mark, line_of, Small, Written, FreshAs, in_full, of_rule, of_limit, WrittenAs}
@@ -126,14 +127,14 @@ numbers_only [] ns h = by ns h
   where
     by : (ns : List ℕ) → Some [] ≡ Some ns → (◌≡◌ {A = List ℕ} [] (spaced ns)) × AllSmall ns
     by [] e = (refl, tt)
-    by (n ∷ ns) e = let z : ◌≡◌ {A = ℕ} 0 1 = cc in absurd (omega arith)
+    by (n ∷ ns) e = cc
 numbers_only (f ∷ fs) ns h = by (decimal f) refl (numbers fs) (numbers_only fs) refl ns h
   where
     by : (o : Option ℕ) → decimal f ≡ o → (q : Option (List ℕ)) → ((ms : List ℕ) → numbers fs ≡ Some ms → (joined fs ≡ spaced ms) × AllSmall ms) → numbers fs ≡ q
         → (ns : List ℕ) → both o q ≡ Some ns → (space ∷ (f ++ joined fs) ≡ spaced ns) × AllSmall ns
-    by None d q ih e ns h = let z : ◌≡◌ {A = ℕ} 0 1 = cc in absurd (omega arith)
-    by (Some v) d None ih e ns h = let z : ◌≡◌ {A = ℕ} 0 1 = cc in absurd (omega arith)
-    by (Some v) d (Some ms) ih e [] h = let z : ◌≡◌ {A = ℕ} 0 1 = cc in absurd (omega arith)
+    by None d q ih e ns h = cc
+    by (Some v) d None ih e ns h = cc
+    by (Some v) d (Some ms) ih e [] h = cc
     by (Some v) d (Some ms) ih e (n ∷ ns) h =
         let same : v ≡ n = cc in
         let rest : ms ≡ ns = cc in
@@ -151,21 +152,18 @@ marked c h = by (eqb c 1) refl
     by true e = sym (eqb-true c 1 e)
     by false e = omega (arith, eqb-false c 1 e)
 
-never : (e : Event) → None ≡ Some e → ⊥
-never e h = let z : ◌≡◌ {A = ℕ} 0 1 = cc in omega arith
-
 event_only : (k : ℕ) (ns : List ℕ) (e : Event) → AllSmall ns → event_of k ns ≡ Some e → Is k ns e
 unfolding event_of line_of Written
 event_only k [] e s h = grant (eqb k letter_g) refl h
   where
     grant : (t : Bool) → eqb k letter_g ≡ t → cond t (Some Grant) None ≡ Some e → Is k [] e
     grant true t h = let x : Grant ≡ e = cc in rw (← x, eqb-true k letter_g t) (refl, tt)
-    grant false t h = absurd (never e h)
+    grant false t h = absurd (none-some e h)
 event_only k (a ∷ []) e s h = fresh (eqb k letter_s) refl h
   where
     leave : (t : Bool) → eqb k letter_l ≡ t → cond t (Some (Leave a)) None ≡ Some e → Is k (a ∷ []) e
     leave true t h = let x : Leave a ≡ e = cc in rw (← x, eqb-true k letter_l t) (refl, s.0)
-    leave false t h = absurd (never e h)
+    leave false t h = absurd (none-some e h)
 
     fresh : (t : Bool) → eqb k letter_s ≡ t → cond t (fresh_of a 1 default_length) (cond (eqb k letter_l) (Some (Leave a)) None) ≡ Some e → Is k (a ∷ []) e
     fresh true t h = let x : Fresh (record { limit = a; rule = 1; default = default_length }) ≡ e = cc in rw (← x, eqb-true k letter_s t) (of_limit refl refl refl, (s.0, omega arith, omega arith))
@@ -174,7 +172,7 @@ event_only k (a ∷ b ∷ []) e s h = fresh (eqb k letter_s) refl h
   where
     size : (t : Bool) → eqb k letter_r ≡ t → cond t (Some (Length a b)) None ≡ Some e → Is k (a ∷ b ∷ []) e
     size true t h = let x : Length a b ≡ e = cc in rw (← x, eqb-true k letter_r t) (refl, (s.0, s.1.0))
-    size false t h = absurd (never e h)
+    size false t h = absurd (none-some e h)
 
     fresh : (t : Bool) → eqb k letter_s ≡ t → cond t (fresh_of a b default_length) (cond (eqb k letter_r) (Some (Length a b)) None) ≡ Some e → Is k (a ∷ b ∷ []) e
     fresh true t h = let x : Fresh (record { limit = a; rule = b; default = default_length }) ≡ e = cc in rw (← x, eqb-true k letter_s t) (of_rule refl refl, (s.0, s.1.0, omega arith))
@@ -183,11 +181,11 @@ event_only k (a ∷ b ∷ c ∷ []) e s h = join (eqb k letter_j) refl h
   where
     early : (t : Bool) → leb c 1 ≡ t → k ≡ letter_u → cond t (Some (Return a b (eqb c 1))) None ≡ Some e → Is k (a ∷ b ∷ c ∷ []) e
     early true t u h = let x : Return a b (eqb c 1) ≡ e = cc in rw (← x, u, marked c (leb-true c 1 t)) (refl, (s.0, s.1.0))
-    early false t u h = absurd (never e h)
+    early false t u h = absurd (none-some e h)
 
     fresh : (t : Bool) → eqb k letter_s ≡ t → cond t (fresh_of a b c) None ≡ Some e → Is k (a ∷ b ∷ c ∷ []) e
     fresh true t h = let x : Fresh (record { limit = a; rule = b; default = c }) ≡ e = cc in rw (← x, eqb-true k letter_s t) (in_full refl, three_small s)
-    fresh false t h = absurd (never e h)
+    fresh false t h = absurd (none-some e h)
 
     returning : (t : Bool) → eqb k letter_u ≡ t → cond t (return_of a b c) (cond (eqb k letter_s) (fresh_of a b c) None) ≡ Some e → Is k (a ∷ b ∷ c ∷ []) e
     returning true t h = early (leb c 1) refl (eqb-true k letter_u t) h
@@ -201,21 +199,21 @@ event_only k (a ∷ b ∷ c ∷ []) e s h = join (eqb k letter_j) refl h
         → Is k (a ∷ b ∷ c ∷ []) e
     join true t h = let x : Join a b c ≡ e = cc in rw (← x, eqb-true k letter_j t) (refl, three_small s)
     join false t h = reweight (eqb k letter_w) refl h
-event_only k (a ∷ b ∷ c ∷ d ∷ ns) e s h = absurd (never e h)
+event_only k (a ∷ b ∷ c ∷ d ∷ ns) e s h = absurd (none-some e h)
 
 named_only : (name : List ℕ) (fs : List (List ℕ)) (e : Event) → event_named name (numbers fs) ≡ Some e → WrittenAs e (name ++ joined fs) × Written e
 unfolding event_named event_if
-named_only [] fs e h = absurd (never e h)
+named_only [] fs e h = absurd (none-some e h)
 named_only (k ∷ []) fs e h = by (numbers fs) refl h
   where
     by : (o : Option (List ℕ)) → numbers fs ≡ o → event_if k o ≡ Some e → WrittenAs e (k ∷ joined fs) × Written e
-    by None n h = absurd (never e h)
+    by None n h = absurd (none-some e h)
     by (Some ns) n h = let p = numbers_only fs ns n in rw p.0 (event_only k ns e p.1 h)
-named_only (k ∷ j ∷ name) fs e h = absurd (never e h)
+named_only (k ∷ j ∷ name) fs e h = absurd (none-some e h)
 
 fields_only : (fs : List (List ℕ)) (e : Event) → event_in fs ≡ Some e → WrittenAs e (whole fs) × Written e
 unfolding event_in
-fields_only [] e h = absurd (never e h)
+fields_only [] e h = absurd (none-some e h)
 fields_only (name ∷ fs) e h = named_only name fs e h
 
 pub only_lines : (l : List ℕ) (e : Event) → read_line l ≡ Some e → WrittenAs e l × Written e
@@ -224,7 +222,7 @@ only_lines l e h = by (leb (length l) 40) h
   where
     by : (t : Bool) → cond t (event_in (fields_of l)) None ≡ Some e → WrittenAs e l × Written e
     by true h = subst (λ (x : List ℕ). WrittenAs e x × Written e) (whole_cut l) (fields_only (fields_of l) e h)
-    by false h = absurd (never e h)
+    by false h = absurd (none-some e h)
 
 -- no line of an event is longer than 40 bytes: the longest that reads at all has 19
 pub lines_short : (e : Event) → Written e → length (line_of e) ≤ 19

@@ -16,7 +16,7 @@ use Rattle.lines.specs.declared.Done.{Done}
 use Rattle.lines.specs.declared.State.{State}
 use Rattle.lines.specs.Cut.{newline, cut_at}
 use Rattle.lines.specs.Print.{header, answers, prints_from, prints}
-use Rattle.lines.specs.Pieces.{Unfinished, Worked, bytes_in, MovedToFront, held_in, prints_on, begun, idle_as, Turned, Closed}
+use Rattle.lines.specs.Pieces.{Unfinished, Worked, bytes_in, MovedToFront, held_in, prints_on, begun, Turned, Closed}
 use Rattle.lines.proofs.Pieces.{closed, cut_short, unfinished_take}
 
 drop_take : (n m : ℕ) (l : List ℕ) → drop n (take m l) ≡ take (m - n) (drop n l)
@@ -51,11 +51,6 @@ moved buf from have kept k h l =
         let e : kept ≡ 41 = omega arith in
         rw (e, take-take 41 (have - from) (drop from buf) (omega arith))
 
--- a state that its buffer cannot hold stays as it is
-pub turned_idle : (s : State) (buf out : List ℕ) → (s.from ≤ s.have → s.have ≤ length buf → ⊥) → Turned s buf buf out (idle_as s)
-turned_idle s buf out n =
-    record { room = omega arith; prints = λ rest. refl; waits = λ e. absurd (clash refl e); stopped = λ a b e. absurd (n a b) }
-
 module _ (s : State) (entry : List ℕ) {held out : List ℕ} {d : Done} (is : held ≡ held_in s entry) (w : Worked s.line s.table held out d) where
   left_over : (rest : List ℕ) → prints_on s entry rest ≡ take d.written out ++ prints_from d.line d.table (bytes_in entry (s.from + d.read) s.have ++ rest)
   left_over rest = rw (is, bytes_after) at (w.prints rest)
@@ -81,9 +76,6 @@ module _ (s : State) (entry : List ℕ) {held out : List ℕ} {d : Done} (is : h
         waits = λ _. record { unfinished = rw front (unfinished_take 41 (bytes_in entry (s.from + d.read) s.have) left); first = refl; few = p.few };
         stopped = λ a b m. absurd (clash m refl);
       }
-
-pub closed_idle : (s : State) (buf : List ℕ) → (s.from < s.have → s.have < length buf → ⊥) → Closed s buf buf (idle_as s)
-closed_idle s buf n = record { ends = λ a b. absurd (n a b); same = (refl, refl); prints = λ u. refl }
 
 -- one byte more at the end of what is held
 bytes_more : (buf : List ℕ) (from have b : ℕ) → from ≤ have → have < length buf → bytes_in (set buf have b) from (have + 1) ≡ bytes_in buf from have ++ (b ∷ [])

@@ -8,11 +8,13 @@ use native.Mathlib.Numerals.{add-one}
 use native.Mathlib.Omega.{arith}
 use lib.ListN.{length, take, drop, length-drop}
 use lib.Seq.{drop-drop}
+use Rattle.std.proofs.lemmas.List.{take_rest}
 use Rattle.laws.proofs.Tests.{clash}
+use Rattle.head.specs.declared.Refusal.{Refusal}
 use Rattle.head.specs.declared.Answer.{Answer}
-use Rattle.head.specs.declared.Answer.TheVariants.{Accepted, Granted, Reported, Stands, Refused}
+use Rattle.head.specs.declared.Answer.TheVariants.{Accepted, Granted, Reported, Stands}
 use Rattle.head.specs.declared.Event.{Event}
-use Rattle.std.specs.Prelude.{Option, None, Some}
+use Rattle.std.specs.Prelude.{Option, None, Some, Result, Ok, Err}
 use Rattle.head.specs.declared.Shown.{Shown}
 use Rattle.head.specs.Answers.{number, plainly, shown_as, broken}
 use Rattle.share.specs.declared.Table.{Table}
@@ -29,13 +31,13 @@ use Rattle.lines.proofs.Digits.{wrote_length, wrote_take, shown_most}
 use Rattle.lines.proofs.Pieces.{first_line}
 
 -- what the writer is handed for a line is what the line prints
-shown_reply : (line : ℕ) (a : Answer) (sum total : ℕ) → shown_line line (shown_as a) sum total ≡ answer_line line (number a) (who_in a) (slice_in a) sum total
+shown_reply : (line : ℕ) (a : Result Answer Refusal) (sum total : ℕ) → shown_line line (shown_as a) sum total ≡ answer_line line (number a) (who_in a) (slice_in a) sum total
 unfolding shown_line
-shown_reply line Accepted sum total = refl
-shown_reply line (Granted queue slice) sum total = refl
-shown_reply line (Reported denominator) sum total = refl
-shown_reply line (Stands standing) sum total = refl
-shown_reply line (Refused why) sum total = refl
+shown_reply line (Ok Accepted) sum total = refl
+shown_reply line (Ok (Granted queue slice)) sum total = refl
+shown_reply line (Ok (Reported denominator)) sum total = refl
+shown_reply line (Ok (Stands standing)) sum total = refl
+shown_reply line (Err why) sum total = refl
 
 known_line : (line : ℕ) (t : Table) (event : Event) → shown_line line (shown_as (step t event).answer) (step t event).table.head.sum (step t event).table.head.total ≡ printed line t (Some event)
 unfolding printed
@@ -112,3 +114,5 @@ module _ {line : ℕ} {t : Table} {input out₀ out : List ℕ} {d : Done} (w : 
         → Working line t input out₀ o (record { read = d.read + n + 1; written = p; ends = d.ends; line = d.line + 1; table = d.table })
     unfolding after
     working_broken told shows x = next_turn told refl (rw (shows, broken_line) at x)
+
+pub ruleset working = (take_rest, working_first, working_ended, working_stopped)

@@ -6,7 +6,7 @@ pub mod Cut
 pub mod Decimal
 -- which event a line is, and which line an event
 pub mod Grammar
--- digits as the writer makes them: between functions
+-- bytes put at a place of a buffer: between functions
 pub mod Places
 -- what the reader finds at a place of a line: between functions
 pub mod Reading

@@ -1,8 +1,9 @@
 -- What bandtrace prints.
-use Rattle.std.specs.Prelude.{List, [], ◌∷◌, ◌++◌, ℕ, suc, Option, None, Some}
+use Rattle.std.specs.Prelude.{List, [], ◌∷◌, ◌++◌, ℕ, suc, Option, None, Some, Result, Ok, Err}
 use Rattle.rows.specs.Numbers.{least_terms}
+use Rattle.head.specs.declared.Refusal.{Refusal}
 use Rattle.head.specs.declared.Answer.{Answer}
-use Rattle.head.specs.declared.Answer.TheVariants.{Accepted, Granted, Reported, Stands, Refused}
+use Rattle.head.specs.declared.Answer.TheVariants.{Accepted, Granted, Reported, Stands}
 use Rattle.head.specs.declared.Event.{Event}
 use Rattle.head.specs.declared.Grant.{Grant}
 use Rattle.head.specs.declared.Shown.{Shown}
@@ -25,19 +26,19 @@ abbrev pub dash : List ℕ
 dash = 45 ∷ []
 
 -- "granted queue, slice (both `-` but on an accepted grant)"
-abbrev pub who_in : Answer → List ℕ
-who_in Accepted = dash
-who_in (Granted queue slice) = digits queue
-who_in (Reported denominator) = dash
-who_in (Stands standing) = dash
-who_in (Refused why) = dash
+abbrev pub who_in : Result Answer Refusal → List ℕ
+who_in (Ok Accepted) = dash
+who_in (Ok (Granted queue slice)) = digits queue
+who_in (Ok (Reported denominator)) = dash
+who_in (Ok (Stands standing)) = dash
+who_in (Err why) = dash
 
-abbrev pub slice_in : Answer → List ℕ
-slice_in Accepted = dash
-slice_in (Granted queue slice) = digits slice
-slice_in (Reported denominator) = dash
-slice_in (Stands standing) = dash
-slice_in (Refused why) = dash
+abbrev pub slice_in : Result Answer Refusal → List ℕ
+slice_in (Ok Accepted) = dash
+slice_in (Ok (Granted queue slice)) = digits slice
+slice_in (Ok (Reported denominator)) = dash
+slice_in (Ok (Stands standing)) = dash
+slice_in (Err why) = dash
 
 -- "line number, answer (0 for accepted), granted queue, slice ..., A and W"
 unfoldable pub answer_line : ℕ → ℕ → List ℕ → List ℕ → ℕ → ℕ → List ℕ

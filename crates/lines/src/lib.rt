@@ -19,6 +19,7 @@ pub const KEPT: usize = LONGEST + 1;
 
 // Where the program stands between reading and writing: the table, the number of the next line, and the bytes from..have of the buffer that
 // are not answered yet. `more` says that whole lines may be among them; `written` is how much of the output to write.
+// `from` and `have` are no `Range`, which is not `Copy`, and `Turned` and `Closed` name them. The buffer is lent, since there is no heap.
 #[derive(Clone, Copy)]
 pub struct State {
     pub table: Table,
@@ -75,6 +76,7 @@ pub fn turn(state: State, buf: &mut [u8], out: &mut [u8]) -> State
 }
 
 // At the end of input: a newline after what is held, which ends a last line that has none.
+#[tactic(auto, using(crate::proofs::Turning::closed_newline))]
 pub fn close(state: State, buf: &mut [u8]) -> State
     ensures { Closed state buf.old buf.new result }
 {
@@ -125,7 +127,9 @@ pub struct Done {
     pub table: Table,
 }
 
-// The whole lines of a piece, as far as their answers have room and line numbers last.
+// The whole lines of a piece, as far as their answers have room and line numbers last. Line by line, and not by an iterator over lines: `Worked` names the
+// bytes that are read, and the room for answers may end before the lines do.
+#[tactic(auto, using(crate::proofs::Working::working))]
 pub fn work(table: Table, line: u64, input: &[u8], out: &mut [u8]) -> Done
     ensures { Worked line table input.now out.new result }
 {
@@ -144,11 +148,12 @@ pub fn work(table: Table, line: u64, input: &[u8], out: &mut [u8]) -> Done
             };
         }
         let end = done.read + length;
+        // Applied here: with a function of its own that was lent the table, the gate's run took 21.9 million instructions for 16.9.
         let shown = match read_line(&input[done.read..end]) {
             Some(event) => {
                 let reply = done.table.apply(event);
                 done.table = reply.table;
-                reply.answer.shown()
+                reply.answer.into()
             }
             None => Shown::plain(BROKEN),
         };
@@ -167,7 +172,9 @@ fn line_length(s: &[u8]) -> Option<usize>
     s.iter().position(|byte| *byte == b'\n')
 }
 
-// Moves an unfinished line to the front of the buffer, and answers how many bytes of it are kept.
+// Moves an unfinished line to the front of the buffer, and answers how many bytes of it are kept. A range in place of `from` and `have`
+// would be taken apart here at once.
+#[tactic(auto, using(crate::proofs::Turning::moved))]
 fn keep(buf: &mut [u8], from: usize, have: usize) -> usize
     requires { (from ≤ have) × (have ≤ length buf.old) }
     ensures { MovedToFront buf.old from have buf.new result }

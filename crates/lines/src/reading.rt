@@ -17,7 +17,8 @@ pub const LONGEST: usize = 40;
 
 const MOST_DIGITS: usize = 5;
 
-#[tactic(auto, using(crate::proofs::Fields::long_name))]
+// Three stages and no loop: that would want an array of three and a count beside it (the kit's `ArrayVec`), and these say which field may be the last.
+#[tactic(auto, using(crate::proofs::Fields::stages))]
 pub fn read_line(s: &[u8]) -> Option<Event>
     ensures { result ≡ read_line s.now }
 {
@@ -46,7 +47,8 @@ pub fn read_line(s: &[u8]) -> Option<Event>
     None
 }
 
-// The field that begins at a place. It is left at the first byte that no decimal has there.
+// The field that begins at a place. It is left at the first byte that no decimal has there. By place, as the definition
+// `field_at` goes. The library's `parse` takes a plus sign and leading zeros.
 #[tactic(auto, using(crate::proofs::Decimals::reading))]
 fn decimal_at(s: &[u8], at: usize) -> Option<Field>
     requires { at ≤ length s.now }
@@ -116,7 +118,7 @@ fn fresh(limit: u64, rule: u64, default: u64) -> Event
     }
 }
 
-// The early mark is 0 or 1.
+// The early mark is 0 or 1; `bool` has no `TryFrom` of a number.
 fn return_of(queue: u64, used: u64, early: u64) -> Option<Event>
     ensures { result ≡ return_of queue used early }
 {

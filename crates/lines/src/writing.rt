@@ -10,6 +10,8 @@ use share::{Grant, Shown};
 // The most bytes that an answer line takes: six numbers, and a byte after each.
 pub const ROOM: usize = 126;
 
+// The place is a number, since `Done.written`, which `Worked` names, is one.
+// Sum and total are handed on by themselves: with the head in their place a line took 4 % more instructions at 64 queues.
 #[tactic(auto, using(crate::proofs::Digits::writing))]
 pub(crate) fn write_answer(
     out: &mut [u8],
@@ -31,7 +33,7 @@ pub(crate) fn write_answer(
     writer.at
 }
 
-// A buffer, and where the next byte goes.
+// A buffer, and where the next byte goes. Not the library's `Cursor`: its `write_all` says nothing of the bytes, and `write` not that the buffer is the same.
 #[derive(Drop)]
 struct Writer<'a> {
     out: &'a mut [u8],

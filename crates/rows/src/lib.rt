@@ -9,12 +9,8 @@ mod looking;
 mod ranges;
 mod serving;
 
-pub use looking::{Bid, First, Gauge, Seen, UNSEEN, goes_before};
-pub use ranges::{
-    VirtualTime, exchanged, in_range, is_asking, is_free, is_ready, moment, outside,
-    request_orderly,
-};
-pub use serving::{charged, charged_to, length_meant, next_set, opened, served};
+pub use looking::{Bid, First, Gauge, Seen, UNSEEN};
+pub use ranges::{VirtualTime, exchanged, outside};
 
 // The limits of the shop, once; the table type names them for its users.
 pub const QUEUES: u64 = 64;
@@ -41,7 +37,7 @@ pub const CEILING: u64 = 281_474_976_710_656;
 // Position units to one unit of virtual time: the least common multiple of 1 to 16.
 pub const UNIT: u64 = 720_720;
 
-// What a table is made with.
+// What a table is made with. Rule and default are numbers, not enums: `fresh` takes any and refuses by its number what is not allowed.
 #[derive(Clone, Copy)]
 pub struct Terms {
     pub limit: u64,
@@ -65,6 +61,7 @@ pub enum State {
     Asking(Request),
 }
 
+// A row of any table: that its numbers are in order is a fact of a sound table, and no invariant of the type.
 #[derive(Clone, Copy)]
 pub struct Row {
     pub weight: u64,

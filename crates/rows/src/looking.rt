@@ -1,15 +1,15 @@
 // One row more of a walk over the rows. The walk tells whether the rows and the stored sums fit together, whom a grant would name, and a position
-// that no going row stands before. It carries numbers only, and goes by the row's state.
+// that no going row stands before.
 ghost use Rattle.std.specs.Prelude.{◌≡◌, ◌≤◌};
 ghost use Rattle.rows.specs.Fits as fits;
 ghost use Rattle.rows.specs.Looks as looks;
 ghost use Rattle.rows.specs.Numbers.{ceiling, max_weight};
 ghost use Rattle.rows.specs.Order as order;
 
-use crate::ranges::{VirtualTime, in_range, request_orderly};
-use crate::{Request, Row, State, Terms, step_of};
+use crate::ranges::VirtualTime;
+use crate::{Request, Row, State, Terms};
 
-// A position that no row of a sound table comes to.
+// A position that no row of a sound table comes to: what the least of no positions is, so that the lesser of two needs no case for none.
 const BEYOND: u64 = crate::CEILING + 1;
 
 // What a request asks for the engine with. Its order is that of rule 2: by the deadline, then by the position.
@@ -27,7 +27,7 @@ pub struct First {
 }
 
 // What the rows so far come to: their parts in W and A, a position that no going row among them stands before, and of those that may be served the
-// first, if there is one.
+// first, if there is one. That one row more fits (`Roomy`) is a fact of how far the walk has come, and no invariant: each row takes some of the room.
 #[derive(Clone, Copy)]
 pub struct Seen {
     pub weights: u64,
@@ -50,21 +50,23 @@ pub const UNSEEN: Seen = Seen {
     first: None,
 };
 
-// Whether a bid goes before another: by its deadline, and under rule 2 of equal deadlines by its position. Of two that neither does, the lower number is
-// the first.
-#[tactic(auto, unfolding(crate::specs::Order::goes_before))]
-pub fn goes_before(terms: Terms, bid: Bid, other: Bid) -> bool
-    ensures { result ≡ order.goes_before terms bid other }
-{
-    if terms.rule == 2 {
-        bid < other
-    } else {
-        bid.deadline < other.deadline
+impl Bid {
+    // Whether it goes before another: by its deadline, and under rule 2 of equal deadlines by its position. Of two that neither does, the lower number is
+    // the first.
+    #[tactic(auto, unfolding(crate::specs::Order::goes_before))]
+    pub fn goes_before(self, other: Bid, terms: Terms) -> bool
+        ensures { result ≡ order.goes_before terms self other }
+    {
+        if terms.rule == 2 {
+            self < other
+        } else {
+            self.deadline < other.deadline
+        }
     }
 }
 
 impl Seen {
-    // One row more, or none if it has a fault: the walk ends there.
+    // One row more, or none if it has a fault: the walk ends there. A row, its number and what it is measured by are of three origins.
     #[tactic(auto, unfolding(crate::specs::Looks::seen_after))]
     pub fn after(self, at: u64, row: Row, gauge: Gauge) -> Option<Seen>
         requires { fits.Roomy self }
@@ -95,7 +97,7 @@ impl Seen {
         requires { fits.Roomy self }
         ensures { result ≡ looks.seen_going time.total time.sum self row.weight row.position }
     {
-        if !in_range(row.weight, row.position) || time.reached(row.position) {
+        if !row.in_range() || time.reached(row.position) {
             return None;
         }
         let counted = self.counting(row);
@@ -110,9 +112,7 @@ impl Seen {
         requires { fits.Roomy self }
         ensures { result ≡ looks.seen_asking gauge.terms gauge.time.total gauge.time.sum self at q row.weight row.position }
     {
-        if !in_range(row.weight, row.position)
-            || !request_orderly(q, row.weight, row.position, step_of(row.weight))
-        {
+        if !row.in_range() || !q.is_orderly(row.weight, row.position) {
             return None;
         }
         let counted = self.counting(row);
@@ -153,7 +153,7 @@ impl Seen {
         ensures { result ≡ looks.bidding terms self new }
     {
         match self.first {
-            Some(best) if !goes_before(terms, new.bid, best.bid) => self,
+            Some(best) if !new.bid.goes_before(best.bid, terms) => self,
             _ => Seen {
                 first: Some(new),
                 ..self

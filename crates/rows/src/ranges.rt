@@ -1,13 +1,13 @@
 // The tests of a row and of its request, and the sums that a row is part of.
 ghost use Rattle.std.specs.Prelude.{◌≡◌, ◌+◌, ◌-◌, ◌≤◌, ◌<◌, IfSome, IfNone};
 ghost use Rattle.rows.specs.Looks.{beyond};
-ghost use Rattle.rows.specs.Numbers.{ceiling, max_total, step_of};
+ghost use Rattle.rows.specs.Numbers.{ceiling, max_total};
 ghost use Rattle.rows.specs.Row.{is_asking, is_free, moment_in};
 ghost use Rattle.rows.specs.Orderly as orderly;
 ghost use Rattle.rows.specs.Fits as fits;
 ghost use Rattle.rows.specs.Virtual as virtual;
 
-use crate::{Request, Row, Standing, State};
+use crate::{Request, Row, Standing, State, step_of};
 
 // Outside a range whose ends belong to it.
 #[tactic(auto, unfolding(crate::specs::Orderly::outside))]
@@ -63,65 +63,65 @@ impl VirtualTime {
         requires { position ≤ beyond }
         ensures { result ≡ virtual.reached position self.total self.sum }
     {
-        match self.stands(position) {
-            Standing::Behind => true,
-            Standing::Level => true,
-            Standing::Ahead { .. } => false,
-        }
+        matches!(self.stands(position), Standing::Behind | Standing::Level)
     }
 }
 
-#[tactic(auto, unfolding(crate::specs::Orderly::in_range, crate::specs::Orderly::outside, laws::specs::Lists::every))]
-pub fn in_range(weight: u64, position: u64) -> bool
-    ensures { result ≡ orderly.in_range weight position }
-{
-    !outside(weight, 1, crate::MAX_WEIGHT) && position <= crate::CEILING
-}
-
-// The ranges first, so that the product fits. The step is that of the weight.
-#[tactic(auto, using(crate::proofs::Steps::travel_most, crate::proofs::Orderly::within_high), unfolding(crate::specs::Orderly::orderly_request, crate::specs::Orderly::outside, crate::specs::Row::position_of, laws::specs::Lists::every))]
-pub fn request_orderly(q: Request, weight: u64, position: u64, step: u64) -> bool
-    requires { (position ≤ ceiling) × (step ≡ step_of weight) }
-    ensures { result ≡ orderly.orderly_request weight position q }
-{
-    if outside(q.length, 1, crate::MAX_LENGTH)
-        || outside(q.next, 1, crate::MAX_LENGTH)
-        || q.length <= q.served
-        || position < q.opening
+impl Row {
+    #[tactic(auto, unfolding(crate::specs::Orderly::in_range, crate::specs::Orderly::outside, laws::specs::Lists::every))]
+    pub fn in_range(self) -> bool
+        ensures { result ≡ orderly.in_range self.weight self.position }
     {
-        return false;
+        !outside(self.weight, 1, crate::MAX_WEIGHT) && self.position <= crate::CEILING
     }
-    q.opening + q.served * step == position
+
+    pub fn is_free(self) -> bool
+        ensures { result ≡ is_free self.state }
+    {
+        matches!(self.state, State::Free)
+    }
+
+    pub fn is_asking(self) -> bool
+        ensures { result ≡ is_asking self.state }
+    {
+        matches!(self.state, State::Asking(_))
+    }
+
+    // A going row that V has reached is to be released.
+    #[tactic(auto, unfolding(crate::specs::Virtual::ready_at))]
+    pub fn is_ready(self, time: VirtualTime) -> bool
+        requires { self.position ≤ beyond }
+        ensures { result ≡ virtual.ready_at time.total time.sum self }
+    {
+        matches!(self.state, State::Going) && time.reached(self.position)
+    }
+
+    // Its part in A.
+    #[tactic(auto, using(crate::proofs::Shares::orderly_moment, crate::proofs::Shares::moment_small))]
+    pub fn moment(self) -> u64
+        requires { orderly.OrderlyRow self }
+        ensures { result ≡ moment_in self }
+    {
+        self.weight * self.position
+    }
 }
 
-pub fn is_free(row: Row) -> bool
-    ensures { result ≡ is_free row.state }
-{
-    matches!(row.state, State::Free)
-}
-
-pub fn is_asking(row: Row) -> bool
-    ensures { result ≡ is_asking row.state }
-{
-    matches!(row.state, State::Asking(_))
-}
-
-// A going row that V has reached is to be released.
-#[tactic(auto, unfolding(crate::specs::Virtual::ready_at))]
-pub fn is_ready(row: Row, time: VirtualTime) -> bool
-    requires { row.position ≤ beyond }
-    ensures { result ≡ virtual.ready_at time.total time.sum row }
-{
-    matches!(row.state, State::Going) && time.reached(row.position)
-}
-
-// A row's part in A.
-#[tactic(auto, using(crate::proofs::Shares::orderly_moment, crate::proofs::Shares::moment_small))]
-pub fn moment(row: Row) -> u64
-    requires { orderly.OrderlyRow row }
-    ensures { result ≡ moment_in row }
-{
-    row.weight * row.position
+impl Request {
+    // Of a row that is in range. The ranges first, so that the product fits.
+    #[tactic(auto, using(crate::proofs::Steps::travel_most, crate::proofs::Orderly::within_high), unfolding(crate::specs::Orderly::orderly_request, crate::specs::Orderly::outside, crate::specs::Row::position_of, laws::specs::Lists::every))]
+    pub fn is_orderly(self, weight: u64, position: u64) -> bool
+        requires { position ≤ ceiling }
+        ensures { result ≡ orderly.orderly_request weight position self }
+    {
+        if outside(self.length, 1, crate::MAX_LENGTH)
+            || outside(self.next, 1, crate::MAX_LENGTH)
+            || self.length <= self.served
+            || position < self.opening
+        {
+            return false;
+        }
+        self.opening + self.served * step_of(weight) == position
+    }
 }
 
 // A sum with one part put in another's place.

@@ -18,7 +18,9 @@ use Rattle.head.specs.declared.Refusal.TheVariants.{Unsound, SliceOut, TableEmpt
 use Rattle.head.specs.declared.surveying.Survey.{Survey}
 use Rattle.head.specs.Head.{concerns, is_empty}
 use Rattle.head.specs.Refusals.{Check, ◌when◌, first_refusal, verdict_of, checks_for, verdict_for, ceiling_passed}
-use Rattle.head.proofs.Verdicts.{refused_some, fine_none}
+use Rattle.std.specs.Bool.{then_some}
+use Rattle.head.specs.Judged.{row_in}
+use Rattle.head.proofs.Verdicts.{verdict_then, refused_some, fine_none}
 use Rattle.share.specs.declared.Reply.{Reply}
 use Rattle.share.specs.declared.Table.{Table}
 use Rattle.share.specs.Asks.{Ahead}
@@ -94,8 +96,11 @@ module _ (t : Table) where
     same_checks e = ap (λ (b : Bool). first_refusal (checks_for b t.head (row t (concerns (named_in survey) e)) e)) h.sound_told ∙ by_row e
 
   -- from the code's verdict, given by the survey's word: what the call answers
-  pub verdict_read : (survey : Option Survey) (asked : Event) {is_told : Bool} {r : Row} {queue named : ℕ} {told : Survey} {v : Result ⊤ Refusal} → v ≡ verdict_for is_told t.head r asked → is_told ≡ is_some survey → r ≡ row t queue → queue ≡ concerns named asked → named ≡ unwrap_or told.chosen 0 → told ≡ told_in survey → v ≡ verdict_for (is_some survey) t.head (row t (concerns (named_in survey) asked)) asked
-  verdict_read survey asked judged is read place name told = judged ∙ rw (is, read, place, name, told) refl
+  pub verdict_read : (survey : Option Survey) (asked : Event) {row_told : Option Row} {is_told : Bool} {r : Row} {queue named : ℕ} {told : Survey} {v : Result ⊤ Refusal} → v ≡ verdict_for (is_some row_told) t.head (row_in row_told) asked → row_told ≡ then_some is_told r → is_told ≡ is_some survey → r ≡ row t queue → queue ≡ concerns named asked → named ≡ unwrap_or told.chosen 0 → told ≡ told_in survey → v ≡ verdict_for (is_some survey) t.head (row t (concerns (named_in survey) asked)) asked
+  verdict_read survey asked judged there is read place name told =
+      judged
+      ∙ ap (λ (o : Option Row). verdict_for (is_some o) t.head (row_in o) asked) (there ∙ rw (is, read, place, name, told) refl)
+      ∙ verdict_then (is_some survey) t.head (row t (concerns (named_in survey) asked)) asked
 
   module _ (survey : Option Survey) (h : Surveyed t survey) (asked : Event) (v : Result ⊤ Refusal) (judged : v ≡ verdict_for (is_some survey) t.head (row t (concerns (named_in survey) asked)) asked) where
     tested : v ≡ verdict_of (first_refusal (checks_of t asked))

@@ -4,7 +4,7 @@ use Rattle.std.proofs.Math.Option.{Option, none, some}
 use Rattle.rows.specs.declared.Terms.{Terms}
 use Rattle.rows.specs.Numbers.{queues, least_terms}
 use Rattle.head.specs.declared.Answer.{Answer}
-use Rattle.head.specs.declared.Answer.TheVariants.{Accepted, Granted, Reported, Stands, Refused}
+use Rattle.head.specs.declared.Answer.TheVariants.{Accepted, Granted, Reported, Stands}
 use Rattle.head.specs.declared.Event.{Event}
 use Rattle.head.specs.declared.Event.TheVariants.{Fresh, Join, Leave, Reweight, Length, Grant, Return}
 use Rattle.head.specs.declared.Refusal.{Refusal}
@@ -27,15 +27,14 @@ unless none refuse do_it = do_it
 unless (some why) refuse do_it = refuse why
 
 abbrev pub refused : Table → Refusal → Reply
-refused t why = record { answer = Refused why; table = t }
+refused t why = record { answer = Err why; table = t }
 
 abbrev pub accepted : Table → Reply
-accepted t = record { answer = Accepted; table = t }
+accepted t = record { answer = Ok Accepted; table = t }
 
 -- the table handed back beside what was answered
 abbrev pub replied : Table → Result Answer Refusal → Reply
-replied t (Ok answer) = record { answer = answer; table = t }
-replied t (Err why) = refused t why
+replied t answer = record { answer = answer; table = t }
 
 -- one shape for all calls: the first refusal that applies, or the event
 unfoldable pub call : List Check → Table → Reply → Reply
@@ -46,7 +45,7 @@ unfoldable pub checks_of : Table → Event → List Check
 checks_of t e = checks_for (sound t) t.head (row t (concerns (chosen t) e)) e
 
 abbrev pub granted_reply : Table → Reply
-granted_reply t = record { answer = Granted (chosen t) (slice_given t); table = granted t }
+granted_reply t = record { answer = Ok (Granted (chosen t) (slice_given t)); table = granted t }
 
 -- what it does where nothing of that applies
 abbrev pub done_by : Table → Event → Reply
@@ -95,7 +94,7 @@ unfoldable pub lag_checks : Table → List ℤ → List Check
 lag_checks t given = (Unsound when not (sound t)) ∷ (ListShort when ltb (length given) queues) ∷ []
 
 abbrev pub reported_reply : Table → Reply
-reported_reply t = record { answer = Reported (lag_unit t.head); table = t }
+reported_reply t = record { answer = Ok (Reported (lag_unit t.head)); table = t }
 
 unfoldable pub lag_reply : Table → List ℤ → Reply
 lag_reply t given = call (lag_checks t given) t (reported_reply t)
@@ -105,7 +104,7 @@ unfoldable pub standing_checks : Table → ℕ → List Check
 standing_checks t queue = Refusals.standing_checks (sound t) (row t queue) queue
 
 abbrev pub stands_reply : Table → ℕ → Reply
-stands_reply t position = record { answer = Stands (standing_by t.head position); table = t }
+stands_reply t position = record { answer = Ok (Stands (standing_by t.head position)); table = t }
 
 unfoldable pub standing_reply : Table → ℕ → Reply
 standing_reply t queue = call (standing_checks t queue) t (stands_reply t (row t queue).position)

@@ -1,5 +1,6 @@
 // What an accepted event does to a sound table, in place. Nothing is refused here: each function asks for what the refusals have settled.
-ghost use Rattle.std.specs.Prelude.{◌≡◌};
+// The numbers are those of the event, under its names; `nearest` is what the survey told, a fact of this table (`Ahead`) and no invariant of a number.
+ghost use Rattle.std.specs.Prelude.{◌≡◌, Ok};
 ghost use Rattle.share.specs.Asks as asks;
 ghost use Rattle.share.specs.Calls.{granted_reply};
 ghost use Rattle.share.specs.Events as events;
@@ -8,10 +9,10 @@ ghost use Rattle.share.specs.Release as release;
 ghost use Rattle.share.specs.Table as table;
 
 use crate::{Answer, Table};
-use rows::{BLANK, Row, State, charged, is_ready, length_meant, next_set, opened};
+use rows::{BLANK, Request, Row, State};
 
 impl Table {
-    // The row of a queue number; past the last there is none.
+    // The row of a queue number; past the last it is blank, as the definition `row` has it. A `usize` has 64 bits.
     #[tactic(auto, using(std::proofs::lemmas::Option::get_or_from_slice_get, crate::proofs::Sound::row_past), unfolding(crate::specs::Table::row))]
     pub(crate) fn row_of(&self, queue: u64) -> Row
         ensures { result ≡ table.row self.now queue }
@@ -52,7 +53,7 @@ impl Table {
         }
     }
 
-    // One pass over the rows, from the top.
+    // One pass over the rows, from the top. By index: over `self.rows.iter_mut().rev()` nothing is known of the rows when the loop is over.
     #[tactic(auto, using(crate::proofs::Passes::passing), unfolding(crate::specs::Table::row, crate::specs::Release::freed, crate::specs::Table::placed, crate::specs::Sound::ready))]
     fn pass(&mut self)
         requires { asks.Releasing self.old }
@@ -60,21 +61,21 @@ impl Table {
     {
         for at in (0..64).rev() {
             let row = self.rows[at];
-            if is_ready(row, self.head.time()) {
+            if row.is_ready(self.head.time()) {
                 self.rows[at] = BLANK;
                 self.head = self.head.replaced(row, BLANK);
             }
         }
     }
 
-    // A queue enters where V stands, or where an empty table rests, with a request of this length.
+    // A queue enters at the least whole number not below V, or where an empty table rests, with a request of this length.
     #[tactic(auto, using(crate::proofs::Grounds::enters), unfolding(crate::specs::Events::joined, rows::specs::Requests::entering))]
     pub(crate) fn enter(&mut self, queue: u64, weight: u64, length: u64, nearest: u64)
         requires { (asks.Joins self.old queue weight length) × (asks.Ahead self.old nearest) }
         ensures { self.new ≡ events.joined self.old queue weight length }
     {
         let position = self.head.entry();
-        let request = opened(position, length_meant(self.head.terms, length));
+        let request = Request::opened(position, self.head.terms.length_meant(length));
         let row = Row {
             weight,
             position,
@@ -120,15 +121,15 @@ impl Table {
         requires { asks.Lengthens self.old queue length }
         ensures { self.new ≡ events.length_set self.old queue length }
     {
-        let meant = length_meant(self.head.terms, length);
-        self.put(queue, next_set(self.row_of(queue), meant));
+        let meant = self.head.terms.length_meant(length);
+        self.put(queue, self.row_of(queue).next_set(meant));
     }
 
     // The slice goes out to the queue that is chosen.
     #[tactic(auto, unfolding(crate::specs::Events::granted, crate::specs::Table::with_slice, head::specs::Head::sliced, crate::specs::Events::slice_given))]
     pub(crate) fn hand_out(&mut self, queue: u64) -> Answer
         requires { (asks.Grants self.old) × (queue ≡ chosen self.old) }
-        ensures { record { answer = result; table = self.new } ≡ granted_reply self.old }
+        ensures { record { answer = Ok result; table = self.new } ≡ granted_reply self.old }
     {
         let slice = self.head.slice_for(self.row_of(queue));
         self.head.out = true;
@@ -147,7 +148,7 @@ impl Table {
         self.head.out = false;
         self.head.holder = 0;
         self.head.ticks = 0;
-        self.put(queue, charged(row, used, early));
+        self.put(queue, row.charged(used, early));
         self.settle(nearest);
     }
 }

@@ -6,6 +6,7 @@ ghost use Rattle.share.specs.Sound.{Orderly};
 use crate::Table;
 
 impl Table {
+    // By index: over `list.iter_mut().zip(&self.rows)` nothing is known of the list when the loop is over.
     #[tactic(auto, using(crate::proofs::Written::writing), unfolding(crate::specs::Table::row))]
     pub(crate) fn write_lags(&self, list: &mut [i64])
         requires { (Orderly self.now) × (64 ≤ length list.old) }

@@ -24,11 +24,11 @@ pub struct Table {
 // What every call hands back: its answer, and the table beside it.
 #[derive(Clone, Copy)]
 pub struct Reply {
-    pub answer: Answer,
+    pub answer: Result<Answer, Refusal>,
     pub table: Table,
 }
 
-// What is told of a table that is not sound: nothing. No going row of any table stands before 0.
+// What is told of a table that is not sound: nothing. No going row of any table stands before 0. One default for both, so that a survey is taken apart once.
 const UNTOLD: Survey = Survey {
     chosen: None,
     nearest: 0,
@@ -110,12 +110,21 @@ impl Table {
     }
 
     // Every call ends in its release, so a sound table has no row left to free.
-    #[tactic(auto, using(crate::proofs::Accepted::nothing_to_free), unfolding(crate::specs::Calls::release_reply, crate::specs::Calls::release_checks, crate::specs::Calls::call))]
     pub fn release(self) -> Reply
         ensures { result ≡ release_reply self }
     {
-        let judged = Refusal::Unsound.when(!self.is_sound());
-        self.reply(judged.map(|()| Answer::Accepted))
+        Reply {
+            answer: self.release_told(),
+            table: self,
+        }
+    }
+
+    #[tactic(auto, using(crate::proofs::Accepted::nothing_to_free), unfolding(crate::specs::Calls::release_reply, crate::specs::Calls::release_checks, crate::specs::Calls::call))]
+    fn release_told(&self) -> Result<Answer, Refusal>
+        ensures { replied self.now result ≡ release_reply self.now }
+    {
+        Refusal::Unsound.when(!self.is_sound())?;
+        Ok(Answer::Accepted)
     }
 
     // A leave with its release, then at once a join of the same number.
@@ -154,8 +163,10 @@ impl Table {
     pub fn standing(self, queue: u64) -> Reply
         ensures { result ≡ standing_reply self queue }
     {
-        let answer = self.standing_told(queue);
-        self.reply(answer)
+        Reply {
+            answer: self.standing_told(queue),
+            table: self,
+        }
     }
 
     #[tactic(auto, using(crate::proofs::Sound::sound_says, crate::proofs::Totals::total_most, rows::proofs::Shares::position_small), unfolding(crate::specs::Calls::standing_reply, crate::specs::Calls::standing_checks, crate::specs::Calls::call))]
@@ -163,7 +174,7 @@ impl Table {
         ensures { replied self.now result ≡ standing_reply self.now queue }
     {
         let row = self.row_of(queue);
-        standing_verdict(self.is_sound(), row, queue)?;
+        standing_verdict(self.is_sound().then_some(row), queue)?;
         Ok(Answer::Stands(self.head.time().stands(row.position)))
     }
 
@@ -172,8 +183,10 @@ impl Table {
         ensures told { result ≡ lag_reply self list.old }
         ensures written { list.new ≡ lag_list self list.old }
     {
-        let answer = self.lags_told(list);
-        self.reply(answer)
+        Reply {
+            answer: self.lags_told(list),
+            table: self,
+        }
     }
 
     #[tactic(auto, using(crate::proofs::Sound::sound_says, crate::proofs::Totals::total_most), unfolding(crate::specs::Calls::lag_reply, crate::specs::Calls::lag_list, crate::specs::Calls::lag_checks, crate::specs::Calls::call, head::specs::Lag::lag_unit))]
@@ -189,13 +202,13 @@ impl Table {
         })
     }
 
-    // One event of a run: the door for every program and every call. A refused fresh keeps the present table.
+    // One event of a run: the door for every program and every call that is an event. A refused fresh keeps the present table.
     pub fn apply(self, event: Event) -> Reply
         ensures { result ≡ step self event }
     {
         let mut table = self;
         let answer = table.change(event);
-        table.reply(answer)
+        Reply { answer, table }
     }
 
     // In place, where no refusal applies. Refused, the table is as it was.
@@ -231,21 +244,11 @@ impl Table {
         let survey = self.survey();
         let told = survey.unwrap_or(UNTOLD);
         let queue = event.concerns(told.chosen.unwrap_or(0));
-        self.head
-            .verdict(event, survey.is_some(), self.row_of(queue))?;
+        let row = survey.is_some().then_some(self.row_of(queue));
+        self.head.verdict(event, row)?;
         Ok(Judged {
             queue,
             nearest: told.nearest,
         })
-    }
-
-    // The table handed back beside what was answered.
-    fn reply(self, answer: Result<Answer, Refusal>) -> Reply
-        ensures { result ≡ replied self answer }
-    {
-        Reply {
-            answer: answer.unwrap_or_else(Answer::Refused),
-            table: self,
-        }
     }
 }

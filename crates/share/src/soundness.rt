@@ -8,7 +8,7 @@ use head::Survey;
 use rows::{Gauge, Seen, UNSEEN, VirtualTime};
 
 impl Table {
-    // The walk over all rows; none where one has a fault. A table that weighs more than its rows can is not walked over.
+    // The walk over all rows; none where one has a fault, and none of a table that weighs more than its rows can.
     #[tactic(auto, using(crate::proofs::Walk::walking), unfolding(crate::specs::Table::row))]
     fn walked(&self) -> Option<Seen>
         ensures { walks.Walked self.now result }

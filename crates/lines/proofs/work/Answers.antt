@@ -4,15 +4,9 @@ use Prim.Native.Nat.{◌+◌, ◌^◌, ◌≤◌, ◌<◌}
 use native.Mathlib.Omega.{arith}
 use lib.ListN.{length}
 use Rattle.std.proofs.lemmas.List.{take_rest}
-use Rattle.lines.proofs.Working.{working_first, working_known, working_broken, working_ended, working_stopped}
+use Rattle.lines.proofs.Working.{working_known, working_broken}
 use Rattle.lines.proofs.work.Goals.{in-Some-read_line, in-None}
 use Rattle.lines.proofs.work.Goals as goal
-
-pub loop-length-init : goal.loop-length-init
-loop-length-init c = working_first _ _ _ _ (omega arith)
-
-pub returns-then-out-done-lt-ROOM : goal.returns-then-out-done-lt-ROOM
-returns-then-out-done-lt-ROOM c = working_stopped c.loop-length.invariant (grind arith)
 
 pub loop-length-preserved : goal.loop-length-preserved
 loop-length-preserved c =
@@ -22,13 +16,10 @@ loop-length-preserved c =
     elim c.match-read_line.branch [
       | in-Some-read_line b ↦
           rw b.done-is
-          (working_known c.loop-length.invariant line.0 line.1 room number b.in-Some-read_line.ensures b.apply-reply.ensures b.shown-shown.ensures
+          (working_known c.loop-length.invariant line.0 line.1 room number b.in-Some-read_line.ensures b.apply-reply.ensures b.into-shown.ensures
           (rw (b.done-is, b.shown-is) at c.write_answer.ensures))
       | in-None b ↦
           rw b.done-is
           (working_broken c.loop-length.invariant line.0 line.1 room number b.in-None.ensures b.plain-shown.ensures
           (rw (b.done-is, b.shown-is) at c.write_answer.ensures))
     ]
-
-pub returns : goal.returns
-returns c = working_ended c.loop-length.invariant (rw take_rest at c.in_default.ensures)
