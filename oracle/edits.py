@@ -48,6 +48,8 @@ def prints(edit, crate):
             file.write_text(text.replace(old, new), encoding="utf-8")
         with open(RUN, "rb") as lines:
             run = subprocess.run(["rt", "try"], cwd=copy / "crates" / "bandtrace", stdin=lines, capture_output=True)
+        if b"run=fault" in run.stderr:
+            return "something else"
         if not run.stdout and run.returncode != 0:
             return "was not built"
         return "the same" if run.stdout == STORED.read_bytes() else "something else"

@@ -9,7 +9,7 @@ use std::io::{Read, Write};
 // How many bytes are read, and written, at a time.
 const BUFFER: usize = 65_536;
 
-// What is read and written, and the buffers that it passes through.
+// The host, whose input and output are used, and the buffers between.
 #[derive(Drop)]
 struct Streams<'r, 'a> {
     rt: &'r HostRuntime,
@@ -96,8 +96,5 @@ impl Streams<'_, '_> {
 }
 
 fn put_out(rt: &HostRuntime, bytes: &[u8]) -> Result<(), Failure> {
-    match rt.stdout().write_all(bytes) {
-        Ok(()) => Ok(()),
-        Err(_) => Err(Failure::Writing),
-    }
+    rt.stdout().write_all(bytes).map_err(|_| Failure::Writing)
 }

@@ -48,8 +48,8 @@ impl Refusal {
 }
 
 impl Head {
-    // What speaks against an event, in the order in which it is looked for. The row is that of the queue that decides on it, and there is one only if the
-    // table is sound: of one that is not, nothing is asked.
+    // What speaks against an event, in the order in which it is looked for; its numbers go on under its own names. The row is that of the queue that decides
+    // on it, and there is one only if the table is sound: of the row of one that is not, nothing is asked.
     #[tactic(auto, unfolding(crate::specs::Refusals::verdict_for, crate::specs::Refusals::checks_for))]
     pub fn verdict(self, event: Event, row: Option<Row>) -> Result<(), Refusal>
         requires { judged.Judging self row }

@@ -17,8 +17,8 @@ use rows::{Standing, Terms};
 pub use surveying::Survey;
 
 // W is total and A is sum; resting is where V stands while no row is present, and zero while one is; holder and ticks are those of the slice that is
-// out, and zero when none is. No `Option` of the two: a table that is not sound may have any three, and goes back as it came. So
-// it may weigh anything: that it weighs no more than its rows can is a fact of a sound one.
+// out, and zero when none is. No `Option` of the two: a table that is not sound may have any three, and goes back as it came. And
+// the table may weigh anything: that it weighs no more than its rows can is a fact of a sound one.
 #[derive(Clone, Copy)]
 pub struct Head {
     pub total: u64,

@@ -24,7 +24,7 @@ fn terms_allowed(terms: Terms) -> bool
     !limit_outside(terms) && !rule_outside(terms) && !default_outside(terms)
 }
 
-// Deadlines are to stay within the ceiling, so that positions do.
+// Deadlines are to stay within the ceiling, so that positions do. The weight is the row's, and stays when the request goes.
 #[tactic(auto, unfolding(rows::specs::Orderly::fits_ceiling))]
 pub(crate) fn fits_ceiling(q: Request, weight: u64) -> bool
     requires { (q.opening ≤ ceiling) × (q.length ≤ max_length) }
@@ -42,7 +42,7 @@ fn slice_most(terms: Terms, q: Request) -> u64
     terms.limit.min(q.length - q.served)
 }
 
-// And the shortest: today the same number, but the definitions are two, and each is tested by its own.
+// And the shortest: today the same number, but the definitions are two, and `orderly_holder` names each.
 #[tactic(auto, unfolding(rows::specs::Orderly::slice_least))]
 fn slice_least(terms: Terms, q: Request) -> u64
     requires { q.served ≤ q.length }

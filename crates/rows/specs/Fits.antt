@@ -5,13 +5,7 @@ use Rattle.rows.specs.declared.Row.{Row}
 use Rattle.rows.specs.declared.State.{State}
 use Rattle.rows.specs.declared.State.TheVariants.{Free, Going, Asking}
 use Rattle.rows.specs.declared.looking.Seen.{Seen}
-use Rattle.rows.specs.Numbers.{max_weight, max_total, max_length, ceiling}
-use Rattle.rows.specs.Looks.{beyond}
-
--- the product of a position and W fits
-pub record Crossing (position total : ℕ) : Type 0 where
-  pub position_high : position ≤ beyond
-  pub total_high : total ≤ max_total
+use Rattle.rows.specs.Numbers.{max_weight, max_length, ceiling}
 
 -- one part of a sum for another
 pub record Exchanging (sum out into : ℕ) : Type 0 where

@@ -84,11 +84,7 @@ impl Seen {
     fn after_free(self, row: Row) -> Option<Seen>
         ensures { result ≡ looks.seen_free self row.weight row.position }
     {
-        if row.weight == 0 && row.position == 0 {
-            Some(self)
-        } else {
-            None
-        }
+        (row.weight == 0 && row.position == 0).then_some(self)
     }
 
     // A row that is going must be one that V has not reached.

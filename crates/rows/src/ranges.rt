@@ -17,7 +17,8 @@ pub fn outside(n: u64, low: u64, high: u64) -> bool
     !(low..=high).contains(&n)
 }
 
-// V = A / W: W is total, and A is sum. It is looked at only where W is no more than 64 rows can weigh, so that a product with a position fits.
+// V = A / W: W is total, and A is sum. It is looked at only where W is no more than 64 rows can weigh, so that a product with a position fits; a position
+// may be any, and that it is small enough is a fact of a sound table.
 #[derive(Clone, Copy)]
 pub struct VirtualTime {
     pub total: u64,

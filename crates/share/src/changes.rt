@@ -1,5 +1,6 @@
 // What an accepted event does to a sound table, in place. Nothing is refused here: each function asks for what the refusals have settled.
-// The numbers are those of the event, under its names; `nearest` is what the survey told, a fact of this table (`Ahead`) and no invariant of a number.
+// The numbers are those of the event, under its names; `nearest` is what the survey told, a fact of this table (`Ahead`)
+// that fails in the middle of a change, and no invariant of a number.
 ghost use Rattle.std.specs.Prelude.{◌≡◌, Ok};
 ghost use Rattle.share.specs.Asks as asks;
 ghost use Rattle.share.specs.Calls.{granted_reply};
@@ -17,10 +18,7 @@ impl Table {
     pub(crate) fn row_of(&self, queue: u64) -> Row
         ensures { result ≡ table.row self.now queue }
     {
-        match self.rows.get(queue as usize) {
-            Some(row) => *row,
-            None => BLANK,
-        }
+        self.rows.get(queue as usize).copied().unwrap_or(BLANK)
     }
 
     // A row in another's place: the old row's share leaves W and A, the new row's enters; where no row is left, the table rests where the old one stood.
@@ -29,6 +27,7 @@ impl Table {
         requires { asks.Placing self.old queue row }
         ensures { self.new ≡ table.placed self.old queue row }
     {
+        // A `usize` has 64 bits, and the library has no `From` between the two.
         let at = queue as usize;
         let old = self.rows[at];
         self.rows[at] = row;
@@ -45,7 +44,7 @@ impl Table {
         if !self.head.time().reached(nearest) {
             return;
         }
-        // What W was before the last pass; more than it is, so that there is a first one.
+        // What W was before the last pass; more than it is, so that there is a first one. No index is counted: it ends when W stays.
         let mut weight = self.head.total + 1;
         while self.head.total < weight {
             weight = self.head.total;

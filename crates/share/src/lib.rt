@@ -28,7 +28,7 @@ pub struct Reply {
     pub table: Table,
 }
 
-// What is told of a table that is not sound: nothing. No going row of any table stands before 0. One default for both, so that a survey is taken apart once.
+// What is told of a table that is not sound: nothing. No going row of any table stands before 0. One default for the queue and the position.
 const UNTOLD: Survey = Survey {
     chosen: None,
     nearest: 0,

@@ -19,6 +19,7 @@ impl Table {
         };
         let mut seen = UNSEEN;
         for (at, row) in self.rows.iter().enumerate() {
+            // As in `put`: 64 bits both.
             seen = seen.after(at as u64, *row, gauge)?;
         }
         Some(seen)
