@@ -5,16 +5,18 @@
 use lines::State;
 use std::fmt;
 use std::io::{Read, Write};
+use std::ops::ControlFlow;
 
 // How many bytes are read, and written, at a time.
 const BUFFER: usize = 65_536;
 
-// The host, whose input and output are used, and the buffers between.
+// The host, whose input and output are used, the buffers between, and where the program stands.
 #[derive(Drop)]
 struct Streams<'r, 'a> {
     rt: &'r HostRuntime,
     buf: &'a mut [u8],
     out: &'a mut [u8],
+    state: State,
 }
 
 // What can fail.
@@ -38,6 +40,7 @@ fn main(rt: HostRuntime) {
         rt: &rt,
         buf: &mut [0; BUFFER],
         out: &mut [0; BUFFER],
+        state: lines::begin(),
     };
     if let Err(failure) = streams.run() {
         // There is nobody left to tell if standard error fails too.
@@ -49,48 +52,51 @@ impl Streams<'_, '_> {
     // A proved loop has to end, and nothing says that input does: it takes as many turns as no run uses up.
     fn run(&mut self) -> Result<(), Failure> {
         put_out(self.rt, &lines::header())?;
-        let mut state = lines::begin();
         for _ in 0..u64::MAX {
-            let Some(after) = self.next(state)? else {
+            if self.next()?.is_break() {
                 return Ok(());
-            };
-            state = after;
+            }
         }
         Ok(())
     }
 
-    // Answers the whole lines that are held before it reads on. With no state there is nothing left to do.
-    fn next(&mut self, state: State) -> Result<Option<State>, Failure> {
-        if state.more {
-            return self.advance(state);
+    // Answers the whole lines that are held before it reads on.
+    fn next(&mut self) -> Result<ControlFlow<()>, Failure> {
+        if self.state.more {
+            return self.advance();
         }
-        if self.buf.len() <= state.have {
-            return Ok(None);
+        if self.buf.len() <= self.state.have {
+            return Ok(ControlFlow::Break(()));
         }
-        match self.rt.stdin().read(&mut self.buf[state.have..]) {
+        match self.rt.stdin().read(&mut self.buf[self.state.have..]) {
             Ok(0) => {
-                self.last(state)?;
-                Ok(None)
+                self.last()?;
+                Ok(ControlFlow::Break(()))
             }
-            Ok(n) => Ok(Some(state.grown(n))),
+            Ok(n) => {
+                self.state = self.state.grown(n);
+                Ok(ControlFlow::Continue(()))
+            }
             Err(_) => Err(Failure::Reading),
         }
     }
 
     // One turn, and what it wrote goes out. A turn that leaves whole lines and writes nothing can only be the last.
-    fn advance(&mut self, state: State) -> Result<Option<State>, Failure> {
-        let after = lines::turn(state, self.buf, self.out);
-        if after.written == 0 {
-            return Ok((!after.more).then_some(after));
+    fn advance(&mut self) -> Result<ControlFlow<()>, Failure> {
+        self.state = lines::turn(self.state, self.buf, self.out);
+        let written = self.state.written;
+        if 0 < written {
+            put_out(self.rt, &self.out[..written])?;
+        } else if self.state.more {
+            return Ok(ControlFlow::Break(()));
         }
-        put_out(self.rt, &self.out[..after.written])?;
-        Ok(Some(after))
+        Ok(ControlFlow::Continue(()))
     }
 
     // The end of input: a line that has no newline counts.
-    fn last(&mut self, state: State) -> Result<(), Failure> {
-        let closed = lines::close(state, self.buf);
-        self.advance(closed)?;
+    fn last(&mut self) -> Result<(), Failure> {
+        self.state = lines::close(self.state, self.buf);
+        self.advance()?;
         Ok(())
     }
 }

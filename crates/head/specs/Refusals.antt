@@ -1,6 +1,7 @@
 -- Document 01, "Numbers of refusal": what each event is refused for, in its order. An event asks whether the table is sound, its head, and one row: that of
 -- the queue that it names, or for a grant that of the queue that is chosen.
 use Rattle.std.specs.Prelude.{Bool, false, not, cond, ◌&&◌, List, [], ◌∷◌, ℕ, leb, ltb, eqb, ⊤, Result, Ok, Err}
+use Rattle.std.specs.Result.{result_and}
 use Rattle.std.proofs.Math.Option.{Option, none, some}
 use Rattle.rows.specs.declared.Row.{Row}
 use Rattle.rows.specs.declared.State.{State}
@@ -34,6 +35,11 @@ verdict_of (some why) = Err why
 -- and the verdict of one check
 abbrev pub refused_when : Refusal → Bool → Result ⊤ Refusal
 refused_when why applies = cond applies (Err why) (Ok tt)
+
+-- one check after another, as the code goes: the first that applies ends it
+abbrev pub judge : List Check → Result ⊤ Refusal
+judge [] = Ok tt
+judge ((why when applies) ∷ rest) = result_and (refused_when why applies) (judge rest)
 
 -- 2 "queue number above 63"
 unfoldable pub queue_outside : ℕ → Bool

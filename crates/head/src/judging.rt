@@ -50,7 +50,7 @@ impl Refusal {
 impl Head {
     // What speaks against an event, in the order in which it is looked for; its numbers go on under its own names. The row is that of the queue that decides
     // on it, and there is one only if the table is sound: of the row of one that is not, nothing is asked.
-    #[tactic(auto, unfolding(crate::specs::Refusals::verdict_for, crate::specs::Refusals::checks_for))]
+    #[tactic(auto, using(crate::proofs::Verdicts::judging))]
     pub fn verdict(self, event: Event, row: Option<Row>) -> Result<(), Refusal>
         requires { judged.Judging self row }
         ensures { result ≡ checks.verdict_for (is_some row) self (judged.row_in row) event }
@@ -74,7 +74,7 @@ impl Head {
         }
     }
 
-    #[tactic(auto, unfolding(crate::specs::Refusals::verdict_for, crate::specs::Refusals::checks_for, crate::specs::Refusals::row_taken))]
+    #[tactic(auto, unfolding(crate::specs::Refusals::checks_for, crate::specs::Refusals::row_taken))]
     fn join_verdict(
         self,
         row: Option<Row>,
@@ -82,7 +82,7 @@ impl Head {
         weight: u64,
         length: u64,
     ) -> Result<(), Refusal>
-        ensures { result ≡ checks.verdict_for (is_some row) self (judged.row_in row) (Join queue weight length) }
+        ensures { result ≡ checks.judge (checks.checks_for (is_some row) self (judged.row_in row) (Join queue weight length)) }
     {
         let row = row.ok_or(Refusal::Unsound)?;
         Refusal::QueueOutside.when(queue_outside(queue))?;
@@ -92,9 +92,9 @@ impl Head {
         Refusal::RowTaken.when(!row.is_free())
     }
 
-    #[tactic(auto, unfolding(crate::specs::Refusals::verdict_for, crate::specs::Refusals::checks_for, crate::specs::Refusals::not_asking))]
+    #[tactic(auto, unfolding(crate::specs::Refusals::checks_for, crate::specs::Refusals::not_asking))]
     fn leave_verdict(self, row: Option<Row>, queue: u64) -> Result<(), Refusal>
-        ensures { result ≡ checks.verdict_for (is_some row) self (judged.row_in row) (Leave queue) }
+        ensures { result ≡ checks.judge (checks.checks_for (is_some row) self (judged.row_in row) (Leave queue)) }
     {
         let row = row.ok_or(Refusal::Unsound)?;
         Refusal::QueueOutside.when(queue_outside(queue))?;
@@ -102,7 +102,7 @@ impl Head {
         Refusal::NotAsking.when(!row.is_asking())
     }
 
-    #[tactic(auto, unfolding(crate::specs::Refusals::verdict_for, crate::specs::Refusals::checks_for, crate::specs::Refusals::not_asking))]
+    #[tactic(auto, unfolding(crate::specs::Refusals::checks_for, crate::specs::Refusals::not_asking))]
     fn reweight_verdict(
         self,
         row: Option<Row>,
@@ -111,7 +111,7 @@ impl Head {
         length: u64,
     ) -> Result<(), Refusal>
         requires { judged.Judging self row }
-        ensures { result ≡ checks.verdict_for (is_some row) self (judged.row_in row) (Reweight queue weight length) }
+        ensures { result ≡ checks.judge (checks.checks_for (is_some row) self (judged.row_in row) (Reweight queue weight length)) }
     {
         let row = row.ok_or(Refusal::Unsound)?;
         Refusal::QueueOutside.when(queue_outside(queue))?;
@@ -122,9 +122,9 @@ impl Head {
         Refusal::LagBelow.when(self.lag_below(row))
     }
 
-    #[tactic(auto, unfolding(crate::specs::Refusals::verdict_for, crate::specs::Refusals::checks_for, crate::specs::Refusals::not_asking))]
+    #[tactic(auto, unfolding(crate::specs::Refusals::checks_for, crate::specs::Refusals::not_asking))]
     fn length_verdict(self, row: Option<Row>, queue: u64, length: u64) -> Result<(), Refusal>
-        ensures { result ≡ checks.verdict_for (is_some row) self (judged.row_in row) (Length queue length) }
+        ensures { result ≡ checks.judge (checks.checks_for (is_some row) self (judged.row_in row) (Length queue length)) }
     {
         let row = row.ok_or(Refusal::Unsound)?;
         Refusal::QueueOutside.when(queue_outside(queue))?;
@@ -133,10 +133,10 @@ impl Head {
         Refusal::NotAsking.when(!row.is_asking())
     }
 
-    #[tactic(auto, unfolding(crate::specs::Refusals::verdict_for, crate::specs::Refusals::checks_for, crate::specs::Head::is_empty))]
+    #[tactic(auto, unfolding(crate::specs::Refusals::checks_for, crate::specs::Head::is_empty))]
     fn grant_verdict(self, row: Option<Row>) -> Result<(), Refusal>
         requires { judged.Judging self row }
-        ensures { result ≡ checks.verdict_for (is_some row) self (judged.row_in row) Grant }
+        ensures { result ≡ checks.judge (checks.checks_for (is_some row) self (judged.row_in row) Grant) }
     {
         let row = row.ok_or(Refusal::Unsound)?;
         Refusal::SliceOut.when(self.out)?;
@@ -145,7 +145,7 @@ impl Head {
     }
 
     fn return_verdict(self, row: Option<Row>, queue: u64, used: u64) -> Result<(), Refusal>
-        ensures { result ≡ checks.verdict_of (checks.first_refusal (checks.return_checks (is_some row) self queue used)) }
+        ensures { result ≡ checks.judge (checks.return_checks (is_some row) self queue used) }
     {
         Refusal::Unsound.when(row.is_none())?;
         Refusal::QueueOutside.when(queue_outside(queue))?;
@@ -171,7 +171,7 @@ impl Head {
 }
 
 fn fresh_verdict(terms: Terms) -> Result<(), Refusal>
-    ensures { result ≡ checks.verdict_of (checks.first_refusal (checks.fresh_checks terms)) }
+    ensures { result ≡ checks.judge (checks.fresh_checks terms) }
 {
     Refusal::LimitOutside.when(limit_outside(terms))?;
     Refusal::RuleOutside.when(rule_outside(terms))?;
