@@ -10,13 +10,12 @@ use std::ops::ControlFlow;
 // How many bytes are read, and written, at a time.
 const BUFFER: usize = 65_536;
 
-// The host, whose input and output are used, the buffers between, and where the program stands.
+// The host, whose input and output are used, and the buffers between.
 #[derive(Drop)]
 struct Streams<'r, 'a> {
     rt: &'r HostRuntime,
     buf: &'a mut [u8],
     out: &'a mut [u8],
-    state: State,
 }
 
 // What can fail.
@@ -40,7 +39,6 @@ fn main(rt: HostRuntime) {
         rt: &rt,
         buf: &mut [0; BUFFER],
         out: &mut [0; BUFFER],
-        state: lines::begin(),
     };
     if let Err(failure) = streams.run() {
         // There is nobody left to tell if standard error fails too.
@@ -52,29 +50,30 @@ impl Streams<'_, '_> {
     // A proved loop has to end, and nothing says that input does: it takes as many turns as no run uses up.
     fn run(&mut self) -> Result<(), Failure> {
         put_out(self.rt, &lines::header())?;
+        let mut state = lines::begin();
         for _ in 0..u64::MAX {
-            if self.next()?.is_break() {
+            if self.next(&mut state)?.is_break() {
                 return Ok(());
             }
         }
         Ok(())
     }
 
-    // Answers the whole lines that are held before it reads on.
-    fn next(&mut self) -> Result<ControlFlow<()>, Failure> {
-        if self.state.more {
-            return self.advance();
+    // Answers the whole lines that are held before it reads on. The state is lent: it holds a table, which by value is copied at each turn.
+    fn next(&mut self, state: &mut State) -> Result<ControlFlow<()>, Failure> {
+        if state.more {
+            return self.advance(state);
         }
-        if self.buf.len() <= self.state.have {
+        if self.buf.len() <= state.have {
             return Ok(ControlFlow::Break(()));
         }
-        match self.rt.stdin().read(&mut self.buf[self.state.have..]) {
+        match self.rt.stdin().read(&mut self.buf[state.have..]) {
             Ok(0) => {
-                self.last()?;
+                self.last(state)?;
                 Ok(ControlFlow::Break(()))
             }
             Ok(n) => {
-                self.state = self.state.grown(n);
+                *state = state.grown(n);
                 Ok(ControlFlow::Continue(()))
             }
             Err(_) => Err(Failure::Reading),
@@ -82,21 +81,20 @@ impl Streams<'_, '_> {
     }
 
     // One turn, and what it wrote goes out. A turn that leaves whole lines and writes nothing can only be the last.
-    fn advance(&mut self) -> Result<ControlFlow<()>, Failure> {
-        self.state = lines::turn(self.state, self.buf, self.out);
-        let written = self.state.written;
-        if 0 < written {
-            put_out(self.rt, &self.out[..written])?;
-        } else if self.state.more {
+    fn advance(&mut self, state: &mut State) -> Result<ControlFlow<()>, Failure> {
+        *state = lines::turn(*state, self.buf, self.out);
+        if 0 < state.written {
+            put_out(self.rt, &self.out[..state.written])?;
+        } else if state.more {
             return Ok(ControlFlow::Break(()));
         }
         Ok(ControlFlow::Continue(()))
     }
 
     // The end of input: a line that has no newline counts.
-    fn last(&mut self) -> Result<(), Failure> {
-        self.state = lines::close(self.state, self.buf);
-        self.advance()?;
+    fn last(&mut self, state: &mut State) -> Result<(), Failure> {
+        *state = lines::close(*state, self.buf);
+        self.advance(state)?;
         Ok(())
     }
 }

@@ -16,7 +16,7 @@ use Rattle.head.specs.declared.Refusal.{Refusal}
 use Rattle.head.specs.Judged.{row_in}
 use Rattle.head.specs.Refusals.{Check, ◌when◌, first_refusal, verdict_of, refused_when, judge, fresh_checks, return_checks, checks_for, verdict_for}
 
--- one check after another is the first of them in the list: each function that judges goes so, and the verdict on every event by this law
+-- one check after another is the first of them in the list: each function that judges an event goes so, and the verdict on every event is proved by this law
 pub judge_first : (checks : List Check) → judge checks ≡ verdict_of (first_refusal checks)
 judge_first [] = refl
 judge_first ((why when true) ∷ rest) = refl

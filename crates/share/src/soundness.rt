@@ -8,8 +8,10 @@ use head::Survey;
 use rows::{Gauge, Seen, UNSEEN, VirtualTime};
 
 impl Table {
-    // The walk over all rows; none where one has a fault, and none of a table that weighs more than its rows can.
+    // The walk over all rows; none where one has a fault, and none of a table that weighs more than its rows can. Not inlined: among its callers' values it
+    // had too few registers.
     #[tactic(auto, using(crate::proofs::Walk::walking), unfolding(crate::specs::Table::row))]
+    #[inline(never)]
     fn walked(&self) -> Option<Seen>
         ensures { walks.Walked self.now result }
     {
